@@ -1,6 +1,19 @@
 //! What the tests share.
 use event_channel::{Receiver, Sender, bounded, unbounded};
-pub use test_support::{Runtime, SharedRuntime, check};
+use std::fmt::Debug;
+use std::process::Abort;
+pub use test_support::{Runtime, SharedRuntime};
+
+/// The answer is the expected one. Where it is not, the message has both, and what was asked. The assertion stands here
+/// once, in a generic function, and is proved once.
+pub fn check<A, V, R>(rt: &R, asked: A, answer: V, expected: V)
+where
+    A: Debug + Drop,
+    V: PartialEq + Debug + Drop,
+    R: Abort,
+{
+    assert_eq!(rt; answer, expected, "{asked:?}");
+}
 
 /// Both sides of a channel of numbers.
 pub type Sides<R> = (Sender<usize, R>, Receiver<usize, R>);

@@ -1,11 +1,24 @@
-//! What the tests share: the calls that have to succeed. Each ends the test where it does not.
+//! What the tests share: the one assertion, and the calls that have to succeed. Each ends the test where it does not.
 use event_listener::{Event, EventId, EventIds, EventListener, Listener};
+use futures::test::MockTask;
 use std::alloc::{AllocError, AllocGlobal};
 use std::fmt::Debug;
 use std::process::Abort;
+use std::random::RandomSource;
 use std::sync::Wait;
 use test_support::ListenerKind;
-pub use test_support::{Runtime, check, new_task};
+pub use test_support::Runtime;
+
+/// The answer is the expected one. Where it is not, the message has both, and what was asked. The assertion stands here
+/// once, in a generic function, and is proved once.
+pub fn check<A, V, R>(rt: &R, asked: A, answer: V, expected: V)
+where
+    A: Debug + Drop,
+    V: PartialEq + Debug + Drop,
+    R: Abort,
+{
+    assert_eq!(rt; answer, expected, "{asked:?}");
+}
 
 /// What was written is this text.
 pub fn reads<R: Abort>(rt: &R, written: Result<String, AllocError>, text: &str) {
@@ -26,6 +39,11 @@ pub fn new_id<R: Abort>(rt: &R) -> EventId {
 /// A new event, the only one of its source.
 pub fn new_event<T, R: Abort>(rt: &R) -> Event<T> {
     Event::with_tag(new_id(rt))
+}
+
+/// A task that is not woken.
+pub fn new_task<R: Abort + RandomSource + AllocGlobal>(rt: &R) -> MockTask {
+    MockTask::new(rt).expect(rt, "a task")
 }
 
 /// A new listener of this kind.

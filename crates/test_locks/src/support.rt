@@ -1,11 +1,24 @@
 //! What the tests share.
 use event_locks::{Mutex, RwLock, Semaphore};
 use event_wait::pause;
+use futures::test::MockTask;
 use std::alloc::{AllocError, AllocGlobal};
+use std::fmt::{Debug, Display};
 use std::process::Abort;
+use std::random::RandomSource;
 use std::sync::Wait;
 use std::thread;
-pub use test_support::{check, new_task};
+
+/// The answer is the expected one. Where it is not, the message has both, and what was asked. The assertion stands here
+/// once, in a generic function, and is proved once.
+pub fn check<A, V, R>(rt: &R, asked: A, answer: V, expected: V)
+where
+    A: Display + Drop,
+    V: PartialEq + Debug + Drop,
+    R: Abort,
+{
+    assert_eq!(rt; answer, expected, "{asked}");
+}
 
 /// A semaphore with so many permits.
 pub fn new_semaphore<R: AllocGlobal>(rt: &R, permits: usize) -> Semaphore {
@@ -20,6 +33,11 @@ pub fn new_mutex<T: Drop, R: AllocGlobal>(rt: &R, value: T) -> Mutex<T> {
 /// A read-write lock round this value.
 pub fn new_lock<T, R: AllocGlobal>(rt: &R, value: T) -> RwLock<T> {
     RwLock::new(rt.alloc(), value)
+}
+
+/// A task that is not woken.
+pub fn new_task<R: Abort + RandomSource + AllocGlobal>(rt: &R) -> MockTask {
+    MockTask::new(rt).expect(rt, "a task")
 }
 
 /// The sum of what the threads counted.

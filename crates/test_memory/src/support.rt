@@ -1,19 +1,31 @@
-//! What the tests share: memory that is taken. Each ends the test where it fails.
+//! What the tests share: the comparison of an answer, and memory that is taken. Each ends the test where it fails.
 use event_listener::{EventId, EventIds};
+use futures::test::MockTask;
 use std::alloc::AllocGlobal;
 use std::fmt::Debug;
 use std::process::Abort;
 use test_queue_memory::{Budget, Hog, Starved};
-pub use test_support::{Runtime, check, new_task};
+pub use test_support::Runtime;
 
 /// What is compared.
 pub trait Answer: PartialEq + Debug + Drop {}
 
 impl<V: PartialEq + Debug + Drop> Answer for V {}
 
+/// The answer is the expected one. Where it is not, the message has both, and what was asked. The assertion stands here
+/// once, in a generic function, and is proved once.
+pub fn check<A: Debug + Drop, V: Answer, R: Abort>(rt: &R, asked: A, answer: V, expected: V) {
+    assert_eq!(rt; answer, expected, "{asked:?}");
+}
+
 /// The first identity of a source.
 pub fn new_id<R: Abort>(rt: &R) -> EventId {
     EventIds::new().next().expect(rt, "an identity")
+}
+
+/// A task that is not woken.
+pub fn new_task<R: Runtime>(rt: &R) -> MockTask {
+    MockTask::new(rt).expect(rt, "a task")
 }
 
 /// All memory.

@@ -1,8 +1,9 @@
 //! What a barrier does when threads come to it again and again.
+use crate::support::check;
 use event_monitor::Barrier;
 use std::sync::atomic::{AtomicUsize, Ordering};
 use std::thread;
-use test_support::{Runtime, check};
+use test_support::Runtime;
 
 // Goes ten rounds, and counts those that this thread led.
 fn goes_round<R: Runtime>(rt: &R, barrier: &Barrier, led: &AtomicUsize) {

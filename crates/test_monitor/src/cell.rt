@@ -1,5 +1,6 @@
 //! A value that is made once: what a cell does in the order in which callers of other crates' cells use it, and tasks that make
 //! it, one at a time, and once that one is gone the next. `wakes` of `test_locks` has threads that wait for it.
+use crate::support::{check, new_task};
 use event_monitor::{Claim, OnceCell, SetError, SetReason};
 use event_wait::LockError;
 use futures::Future;
@@ -10,7 +11,7 @@ use std::cell::Cell;
 use std::sync::atomic::{AtomicUsize, Ordering};
 use std::thread::{self, Threads};
 use std::time::{Duration, Instant};
-use test_support::{Runtime, check, for_two_seconds, new_task, spin_until};
+use test_support::{Runtime, for_two_seconds, spin_until};
 
 // What a maker is told to give, how often it was polled, and whether it is gone, and was before the next one was woken.
 #[derive(Drop)]

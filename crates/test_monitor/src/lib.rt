@@ -14,3 +14,5 @@ mod barrier;
 mod cell;
 #[cfg(test)]
 mod monitor;
+#[cfg(test)]
+mod support;

@@ -1,11 +1,12 @@
 //! A value that threads and tasks wait for, with the condition that the page of `event_locks` shows.
+use crate::support::{check, new_task};
 use event_monitor::{Condition, Monitor, Until};
 use futures::test::MockTask;
 use std::sync::atomic::{AtomicUsize, Ordering};
 use std::sync::{Barrier, Wait};
 use std::thread::{self, Threads};
 use std::time::{CpuClock, Duration, Instant};
-use test_support::{Runtime, check, deadline_after, new_task, spin_until};
+use test_support::{Runtime, deadline_after, spin_until};
 
 /// Takes an amount off a balance, once there is as much. It gives what is left.
 #[derive(Clone, Copy)]

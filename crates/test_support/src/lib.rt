@@ -1,7 +1,6 @@
 //! What the crates of tests share, and `soak` and the worked rows with them: runtimes that they change, and the kinds of
 //! listeners and the wakers of `calls_events`, which this hands on.
 //!
-//! - Answers: [`check`] is the one assertion, and [`new_task`] makes a task to poll with.
 //! - Listeners and tasks: [`ListenerKind`]s, so that a test is run with each; [`WaitCall`] names a wait, for the same;
 //!   [`any_waker`].
 //! - Runtimes: [`Runtime`] is what a test asks of its runtime value, [`SharedRuntime`] what one with threads does.
@@ -14,7 +13,6 @@
 #![tactic(auto)]
 
 mod changed;
-mod checks;
 mod loops;
 mod runtimes;
 mod screen;
@@ -23,7 +21,6 @@ mod wakers;
 
 pub use calls_events::{Borrowing, ListenerKind, Sharing, waker_of};
 pub use changed::{Change, Changed, NoClock, Ticks};
-pub use checks::{check, new_task};
 pub use loops::{for_two_seconds, spin_until};
 pub use runtimes::{Runtime, SharedRuntime};
 pub use screen::Screen;
