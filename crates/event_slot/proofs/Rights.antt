@@ -1,5 +1,5 @@
 -- How a right and the count change together where the word is as it was expected: a newcomer's, a reader's and the writer's. The words here are those that `counts` makes. Assumes `Logic`.
-use Rattle.event_slot.proofs.Names.{◌≡◌, ℕ, zero, suc, ◌-◌, ◌%◌, ◌^◌, ◌<◌, ◌≤◌, ◌+◌, [], ◌∷◌, sym, refl, arith, Option, Some, None, Bool, true, false, dite, ℕ_discrete, dec_le, Ura, full_share, SProp, ent, sep, upd, upd_i, never_e, Fml, ftrue, fsep, fex, fbor, Logic, sem, ‵, raw, ◌⊛◌, given, ◌$◌, ◌∵◌, !, qed, by, move, keep, drop, split, group, fsplit, fsplit3, fjoin, fjoin3, fpick, fpack, learn, frame, suffices, settle, use1, use2, rewrite, done, out, out_once, RattleType, RowLaws, nothing, contraction}
+use Rattle.event_slot.proofs.Names.{◌≡◌, ℕ, zero, suc, ◌-◌, ◌%◌, ◌^◌, ◌<◌, ◌≤◌, ◌+◌, [], ◌∷◌, sym, refl, arith, Option, Some, None, Bool, true, false, dite, ℕ_discrete, dec_le, Ura, full_share, SProp, ent, sep, guard, upd, upd_i, never_e, Fml, ftrue, fsep, fex, fbor, Logic, sem, ‵, raw, ◌⊛◌, given, ◌$◌, ◌∵◌, !, qed, by, move, keep, drop, split, check, group, fsplit, fsplit3, fjoin, fjoin3, fpick, fpack, learn, frame, suffices, settle, use1, use2, rewrite, done, out, out_once, RattleType, RowLaws, nothing, contraction}
 use base.FractionLaws.{Counts-all}
 use mathlib.Core.Bool.{cond}
 use Prim.Native.Nat.{min}
@@ -7,7 +7,7 @@ use Rattle.counted_slot.specs.Counting.{readers, IsShared, fact, share, parts, t
 use Rattle.counted_slot.proofs.Parts.{parts_in, parts_cut, parts_glue, parts_whole, none_beside, parts_agree, renames}
 use Rattle.counted_slot.proofs.Rounds.{seen_laws, Fresh, Ready, returned}
 use Rattle.counted_slot.proofs.Steps.{Spoil, none, lent, home, last, rank, shown_value, spoil}
-use Rattle.event_slot.specs.Ruling.{IsTurn, Gains, IsReadersTurn, IsWritersTurn, WriterBecomes, MayTurn, Becomes}
+use Rattle.event_slot.specs.Ruling.{IsTurn, Gains, IsReadersTurn, IsWritersTurn, WriterBecomes, MayTurn, Becomes, Sees}
 use Rattle.event_slot.specs.Holding.{any}
 
 -- what the right has become by the step, and that a reader who reads on sees what it saw
@@ -189,6 +189,28 @@ module _ {M : Type 1} {𝓤 : Ura M} (𝓛 : Logic 𝓤) where
     reader_hits : (old new : ℕ) (v : Option R.Denot) → IsReadersTurn old new → (p : Phase R.Denot) → ⟦ st old p ⟧ ∗ ⟦ reads R any b o t v ⟧ ⊢ upd 𝓤 (⟦ St new ⟧ ∗ ⟦ Won 1 old new v ⟧)
     reader_hits old new (Some x) asked p = reader_goes x old new asked p
     reader_hits old new None asked p = qed 𝓛 (‵ (st old p) ∷ ‵ (reads R any b o t None) ∷ []) ∵ keep ! (1 ∷ []) $ by ! (never_e 𝓤 _)
+
+    -- One who has a right sees that in the word, whatever it does: a part of the count is missing from a whole, and *out* is had once.
+    abbrev pub Seeing : ℕ → ℕ → Fml → Pr
+    Seeing r n K = guard 𝓤 (Sees r n) (⟦ St n ⟧ ∗ ⟦ K ⟧)
+
+    reader_sees : (x : R.Denot) (n a : ℕ) (p : Phase R.Denot) → ⟦ st n p ⟧ ∗ ⟦ parts t.1 a 1 ⟧ ∗ ⟦ seen R any b o x (a ∷ t.0) ⟧ ⊢ upd 𝓤 (Seeing 1 n (reader R any b o t x))
+    reader_sees x n a = let K : Fml = reader R any b o t x in among a n ⟦ seen R any b o x (a ∷ t.0) ⟧ (Seeing 1 n K) (λ m y some' h. let h₀ = h.0.0 in let h₁ = h.0.1 in let h₂ = h.1 in
+        qed 𝓛 (‵ (parts t.1 a (2 ^ 63 - m)) ∷ ‵ (parts t.1 a 1) ∷ ‵ (Lent a y) ∷ ‵ (seen R any b o x (a ∷ t.0)) ∷ []) ∵ suffices ! _ (upd_i 𝓤 (Seeing 1 n K)) $
+        check ! ((λ _. (h₀, h₁, omega arith)), (λ z. absurd (omega (arith, z)))) $ move ! (1 ∷ 3 ∷ []) $ fjoin ! $ fpack ! ℕ (λ u. fsep (parts t.1 u 1) (seen R any b o x (u ∷ t.0))) a $
+        move ! (1 ∷ 2 ∷ []) $ use2 𝓛 (‵ (St n)) (on_with n a m y h) $ done !)
+
+    pub writer_sees : (k n : ℕ) (W : Fml) (p : Phase R.Denot) → ⟦ st n p ⟧ ∗ ⟦ fsep (out t.2) W ⟧ ⊢ upd 𝓤 (Seeing (suc (suc k)) n (fsep (out t.2) W))
+    writer_sees k n W free = let K : Fml = fsep (out t.2) W in qed 𝓛 (‵ (st n free) ∷ ‵ K ∷ []) ∵ fsplit3 ! $ move ! (2 ∷ []) $ fsplit ! $ move ! (4 ∷ []) $ fsplit ! $ keep ! (0 ∷ 2 ∷ []) $ by ! (out_once 𝓛 t.2 (Seeing (suc (suc k)) n K))
+    writer_sees k n W (shared c m x) = let K : Fml = fsep (out t.2) W in qed 𝓛 (‵ (st n (shared c m x)) ∷ ‵ K ∷ []) ∵ fsplit3 ! $ move ! (2 ∷ []) $ fsplit ! $ move ! (4 ∷ []) $ fsplit ! $ keep ! (0 ∷ 2 ∷ []) $ by ! (out_once 𝓛 t.2 (Seeing (suc (suc k)) n K))
+    writer_sees k n W away = let K : Fml = fsep (out t.2) W in qed 𝓛 (‵ (st n away) ∷ ‵ K ∷ []) ∵ fsplit ! $ fpick ! (λ h. suffices ! _ (upd_i 𝓤 (Seeing (suc (suc k)) n K)) $ check ! ((λ z. absurd (omega (arith, z))), (λ _. h)) $
+        fpack ! (n % 4 ≡ 3) (λ _. ftrue) h $ fjoin ! $ use1 𝓛 (‵ (St n)) (stands n away) $ done !)
+
+    pub sees : (r n w : ℕ) (v : Option R.Denot) (p : Phase R.Denot) → ⟦ st n p ⟧ ∗ ⟦ Prepared r w v ⟧ ⊢ upd 𝓤 (Seeing r n (Prepared r w v))
+    sees zero n w v p = qed 𝓛 (‵ (st n p) ∷ ‵ ftrue ∷ []) ∵ suffices ! _ (upd_i 𝓤 (Seeing 0 n ftrue)) $ check ! ((λ z. absurd (omega (arith, z))), (λ z. absurd (omega (arith, z)))) $ use1 𝓛 (‵ (St n)) (stands n p) $ done !
+    sees (suc zero) n w (Some x) p = qed 𝓛 (‵ (st n p) ∷ ‵ (reader R any b o t x) ∷ []) ∵ move ! (1 ∷ []) $ fpick ! (λ a. fsplit ! $ move ! (2 ∷ 0 ∷ 1 ∷ []) $ by ! (reader_sees x n a p))
+    sees (suc zero) n w None p = qed 𝓛 (‵ (st n p) ∷ ‵ (reads R any b o t None) ∷ []) ∵ keep ! (1 ∷ []) $ by ! (never_e 𝓤 _)
+    sees (suc (suc k)) n w v p = writer_sees k n (Ready 𝓛 R any b o t w) p
 
     pub hits : RowLaws R → (r old new : ℕ) (v : Option R.Denot) → MayTurn r old new → (p : Phase R.Denot) → ⟦ st old p ⟧ ∗ ⟦ Prepared r new v ⟧ ⊢ upd 𝓤 (⟦ St new ⟧ ∗ ⟦ Won r old new v ⟧)
     hits L zero old new v asked p = hit L old new v asked p

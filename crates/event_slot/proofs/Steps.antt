@@ -1,5 +1,5 @@
 -- One step on the word of a slot, under its invariant: the marks' side, and both sides at once. Assumes `Logic`.
-use Rattle.event_slot.proofs.Names.{◌≡◌, ◌≢◌, ℕ, ◌+◌, ◌^◌, ◌<◌, T, eqb, List, [], ◌∷◌, ◌++◌, set, sym, refl, subst, arith, eq-eqb, ne_eqb, w64, Option, get_elem?, Bool, true, false, dite, ℕ_discrete, Ura, ty_int, vint, has_ty, WT, full_share, Coded, SProp, ent, sep, ex, all, all_e, upd, upd_i, id⊢, Share, Fml, ftrue, fsep, fex, fbor, flft, either, Logic, sem, ‵, raw, ◌⊛◌, some, given, ◌$◌, ◌∵◌, !, qed, by, move, drop, split, fsplit, fsplit3, fjoin, fpick, fpack, pick, learn, show, frame, each, assume, suffices, settle, use1, use2, done, RattleType, RowLaws, block_ptr, nothing, asks, word, whenever}
+use Rattle.event_slot.proofs.Names.{◌≡◌, ◌≢◌, ℕ, zero, suc, ◌+◌, ◌^◌, ◌<◌, T, eqb, List, [], ◌∷◌, ◌++◌, set, sym, refl, subst, arith, eq-eqb, ne_eqb, w64, Option, Some, None, get_elem?, Bool, true, false, dite, ℕ_discrete, Ura, ty_int, vint, has_ty, WT, full_share, Coded, SProp, ent, sep, ex, all, all_e, upd, upd_i, never_e, id⊢, Share, Fml, ftrue, fsep, fex, fbor, flft, either, Logic, sem, ‵, raw, ◌⊛◌, some, given, ◌$◌, ◌∵◌, !, qed, by, move, keep, drop, split, fsplit, fsplit3, fjoin, fpick, fpack, pick, learn, show, frame, each, assume, suffices, settle, use1, use2, done, RattleType, RowLaws, block_ptr, nothing, asks, word, whenever}
 use mathlib.Core.Bool.{cond}
 use mathlib.Core.Option.{some as there}
 use Rattle.core.proofs.raw_atomic.Asked.{borrowed, Lies, Again}
@@ -7,10 +7,10 @@ use Rattle.atomic_table.specs.Seated.{roster}
 use Rattle.atomic_table.specs.Marked.{mark_owns}
 use Rattle.atomic_table.proofs.Roster.{Moved, moves, Joined, joins, apart}
 use Rattle.counted_slot.specs.Counting.{fact, Phase, state, State}
-use Rattle.event_slot.specs.Ruling.{MayTurn, Keeps, MayTrade, Comes, MaySplit, MayJoin}
-use Rattle.event_slot.specs.Holding.{any, Names, count, lies, knowing, both, Inv}
-use Rattle.event_slot.proofs.Rights.{Won, Prepared, hits}
-use Rattle.event_slot.proofs.Turning.{left_over}
+use Rattle.event_slot.specs.Ruling.{MayTurn, Sees, Keeps, MayTrade, Comes, MaySplit, MayJoin}
+use Rattle.event_slot.specs.Holding.{any, Names, count, tracked, right_to, lies, knowing, both, Inv}
+use Rattle.event_slot.proofs.Rights.{Won, Prepared, Seeing, sees, writer_sees, hits}
+use Rattle.event_slot.proofs.Turning.{outcome, left_over}
 
 module _ {M : Type 1} {𝓤 : Ura M} (𝓛 : Logic 𝓤) where
   open 𝓛 use {A}
@@ -182,10 +182,32 @@ module _ {M : Type 1} {𝓤 : Ura M} (𝓛 : Logic 𝓤) where
           → A.inv (fbor t.0 I) ∗ (A.lft t.0 s ∗ (⟦ ftrue ⟧ ∗ ⟦ J ⟧)) ⊢ asks 𝓛 (block_ptr b (o + 0)) (λ n. n) whenever (λ n. fsep (flft t.0 s) (fsep ftrue (right n)))
       looks_on J right marks = stepped (λ n. n) ftrue J (λ _. ftrue) right still marks
 
+      -- a load by one who has this right
+      sees_right : (r n : ℕ) (v : Option R.Denot) (p : Phase R.Denot) → ⟦ st n p ⟧ ∗ ⟦ right_to R b o t r v ⟧ ⊢ upd 𝓤 (Seeing 𝓛 R b o (count t) r (c n) (right_to R b o t r v))
+      sees_right zero n v p = sees 𝓛 R b o (count t) 0 (c n) 0 v p
+      sees_right (suc zero) n v p = sees 𝓛 R b o (count t) 1 (c n) 0 v p
+      sees_right (suc (suc k)) n (Some x) p = writer_sees 𝓛 R b o (count t) k (c n) (tracked R b o t.0 x) p
+      sees_right (suc (suc k)) n None p = qed 𝓛 (‵ (st n p) ∷ ‵ (right_to R b o t (suc (suc k)) None) ∷ []) ∵ keep ! (1 ∷ []) $ by ! (never_e 𝓤 _)
+
+      module _ (r : ℕ) (v : Option R.Denot) where
+        abbrev pub Seen : ℕ → Fml
+        Seen n = fsep (fact (Sees r (c n))) (right_to R b o t r v)
+
+        seen_by : (n : ℕ) (p : Phase R.Denot) → ⟦ st n p ⟧ ∗ ⟦ right_to R b o t r v ⟧ ⊢ upd 𝓤 (⟦ St n ⟧ ∗ ⟦ Seen n ⟧)
+        seen_by n p = let K : Fml = right_to R b o t r v in let Z : Pr = ⟦ St n ⟧ ∗ ⟦ Seen n ⟧ in qed 𝓛 (‵ (st n p) ∷ ‵ K ∷ []) ∵ use2 𝓛 (raw (upd 𝓤 (Seeing 𝓛 R b o (count t) r (c n) K))) (sees_right r n v p) $
+            settle 𝓛 Z (given (Sees r (c n)) (‵ (St n) ⊛ ‵ K)) $ learn ! (λ h. split ! $ suffices ! _ (upd_i 𝓤 Z) $ frame ! $ nothing ! $ fpack ! (Sees r (c n)) (λ _. ftrue) h $ fjoin ! $ done !)
+
+        pub looks_by : (J : Fml) (right : ℕ → Fml) → Marks (λ n. n) J right
+            → A.inv (fbor t.0 I) ∗ (A.lft t.0 s ∗ (⟦ right_to R b o t r v ⟧ ∗ ⟦ J ⟧)) ⊢ asks 𝓛 (block_ptr b (o + 0)) (λ n. n) whenever (λ n. fsep (flft t.0 s) (fsep (Seen n) (right n)))
+        looks_by J right marks = stepped (λ n. n) (right_to R b o t r v) J Seen right seen_by marks
+
       -- a compare-exchange by one who has this right
       module _ (L : RowLaws R) (r old new : ℕ) (v : Option R.Denot) (asked : MayTurn r (c old) (c new)) (q : Share) where
         abbrev Left : ℕ → Fml
-        Left = left_over 𝓛 R b o t c r old new v q
+        Left = outcome 𝓛 R b o t c r old new v q
+
+        abbrev Leaves : ℕ → Fml
+        Leaves = left_over 𝓛 R b o t c r old new v q
 
         abbrev Has : Fml
         Has = Prepared 𝓛 R b o (count t) r (c new) v
@@ -207,6 +229,12 @@ module _ {M : Type 1} {𝓤 : Ura M} (𝓛 : Logic 𝓤) where
             (λ e. subst F (sym (eq-eqb n old e)) (subst (λ (k : ℕ). ⟦ st k p ⟧ ∗ ⟦ Has ⟧ ⊢ Ends k new) (sym e) (wins p)))
             (λ miss. subst F (sym (ne_eqb n old miss)) (misses n miss p))
 
+        -- and whoever has the right has seen it in the word
+        sighted : (n : ℕ) (p : Phase R.Denot) → ⟦ st n p ⟧ ∗ ⟦ Has ⟧ ⊢ upd 𝓤 (⟦ St (either (eqb n old) new n) ⟧ ∗ ⟦ Leaves n ⟧)
+        sighted n p = let m : ℕ = either (eqb n old) new n in let Z : Pr = ⟦ St m ⟧ ∗ ⟦ Leaves n ⟧ in qed 𝓛 (‵ (st n p) ∷ ‵ Has ∷ []) ∵ use2 𝓛 (raw (upd 𝓤 (Seeing 𝓛 R b o (count t) r (c n) Has))) (sees 𝓛 R b o (count t) r (c n) (c new) v p) $
+            settle 𝓛 Z (given (Sees r (c n)) (‵ (St n) ⊛ ‵ Has)) $ learn ! (λ h. split ! $ fpick ! (λ p'. use2 𝓛 (raw (Ends n m)) (turned n p') $ settle 𝓛 Z (‵ (St m) ⊛ ‵ (Left n)) $ split ! $ suffices ! _ (upd_i 𝓤 Z) $ frame ! $
+            nothing ! $ fpack ! (Sees r (c n)) (λ _. ftrue) h $ fjoin ! $ done !))
+
         pub turns : (J : Fml) (right : ℕ → Fml) → Marks (λ n. either (eqb n old) new n) J right
-            → A.inv (fbor t.0 I) ∗ (A.lft t.0 s ∗ (⟦ Has ⟧ ∗ ⟦ J ⟧)) ⊢ asks 𝓛 (block_ptr b (o + 0)) (λ n. either (eqb n old) new n) whenever (λ n. fsep (flft t.0 s) (fsep (Left n) (right n)))
-        turns J right marks = stepped (λ n. either (eqb n old) new n) Has J Left right turned marks
+            → A.inv (fbor t.0 I) ∗ (A.lft t.0 s ∗ (⟦ Has ⟧ ∗ ⟦ J ⟧)) ⊢ asks 𝓛 (block_ptr b (o + 0)) (λ n. either (eqb n old) new n) whenever (λ n. fsep (flft t.0 s) (fsep (Leaves n) (right n)))
+        turns J right marks = stepped (λ n. either (eqb n old) new n) Has J Leaves right sighted marks

@@ -1,10 +1,10 @@
 -- What a compare-exchange is given of the value by one who has a right, and the right that this leads to. Assumes `Logic`.
-use Rattle.event_slot.proofs.Names.{◌≡◌, ◌≢◌, ℕ, zero, suc, ◌∙◌, [], ◌∷◌, sym, refl, arith, Option, Some, None, Bool, true, false, Ura, SProp, ent, sep, ex, ex_i, guard, guard_i, never_e, via, Lft, Share, Incl, Incl-refl, Fml, fsep, fex, fbor, flft, Logic, sem, ‵, raw, ◌⊛◌, some, given, later, ◌$◌, ◌∵◌, !, qed, by, move, keep, drop, split, split3, fsplit, fsplit3, fjoin, fpick, pick, learn, use1, use2, use3, await, updating, now, done, out, RattleType, Shares}
+use Rattle.event_slot.proofs.Names.{◌≡◌, ◌≢◌, ℕ, zero, suc, ◌∙◌, [], ◌∷◌, sym, refl, arith, Option, Some, None, Bool, true, false, Ura, SProp, ent, sep, ex, ex_i, guard, guard_i, never_e, via, Lft, Share, Incl, Incl-refl, Fml, fsep, fex, fbor, flft, Logic, sem, ‵, raw, ◌⊛◌, some, given, later, ◌$◌, ◌∵◌, !, qed, by, move, keep, drop, split, split3, check, fsplit, fsplit3, fjoin, fpick, pick, learn, use1, use2, use3, await, updating, now, done, out, RattleType, Shares}
 use mathlib.Core.Bool.{cond}
 use Rattle.counted_slot.specs.Counting.{cell, fact}
 use Rattle.counted_slot.proofs.Rounds.{Fresh, fresh, Ready, readies, ended}
 use Rattle.counted_slot.proofs.Steps.{rank, shown_value}
-use Rattle.event_slot.specs.Ruling.{Becomes}
+use Rattle.event_slot.specs.Ruling.{Becomes, Sees}
 use Rattle.event_slot.specs.Holding.{any, Names, count, tracked, writer, writes, right_to}
 use Rattle.event_slot.proofs.Rights.{Won, Prepared}
 use Rattle.event_slot.proofs.Tracking.{tracks, untracks, gets}
@@ -60,9 +60,13 @@ module _ {M : Type 1} {𝓤 : Ura M} (𝓛 : Logic 𝓤) (R : RattleType) (b o :
     Got true = Won 𝓛 R b o (count t) r (c old) (c new) v
     Got false = Given r (c new) v
 
-    -- what the step leaves, where the word was n
+    -- what came of the right, where the word was n
+    abbrev pub outcome : ℕ → Fml
+    outcome n = fex Bool (λ y. fsep (fact (If n y)) (Got y))
+
+    -- what the step leaves, with what one saw
     abbrev pub left_over : ℕ → Fml
-    left_over n = fex Bool (λ y. fsep (fact (If n y)) (Got y))
+    left_over n = fsep (fact (Sees r (c n))) (outcome n)
 
     abbrev pub Right : ℕ → ℕ × Option R.Denot → Pr
     Right n z = guard 𝓤 (Answer c r old new n v z.0 z.1) ⟦ right_to R b o t z.0 z.1 ⟧
@@ -102,6 +106,9 @@ module _ {M : Type 1} {𝓤 : Ura M} (𝓛 : Logic 𝓤) (R : RattleType) (b o :
     got r n true e = hit c r old new v q n e
     got r n false ne = miss r n ne
 
-    -- what one has after the step
-    pub concludes : (r n : ℕ) → ⟦ left_over c r old new v q n ⟧ ∗ A.lft t.0 q ⊢ H.⇛ (Rights c r old new v q n ∗ A.lft t.0 q)
-    concludes r n = qed 𝓛 (‵ (left_over c r old new v q n) ∷ ‵ (flft t.0 q) ∷ []) ∵ fpick ! (λ y. fsplit ! $ fpick ! (λ is. drop ! $ by ! (got r n y is)))
+    ended_so : (r n : ℕ) → ⟦ outcome c r old new v q n ⟧ ∗ A.lft t.0 q ⊢ H.⇛ (Rights c r old new v q n ∗ A.lft t.0 q)
+    ended_so r n = qed 𝓛 (‵ (outcome c r old new v q n) ∷ ‵ (flft t.0 q) ∷ []) ∵ fpick ! (λ y. fsplit ! $ fpick ! (λ is. drop ! $ by ! (got r n y is)))
+
+    -- what one saw, and has after the step
+    pub concludes : (r n : ℕ) → ⟦ left_over c r old new v q n ⟧ ∗ A.lft t.0 q ⊢ H.⇛ (guard 𝓤 (Sees r (c n)) (Rights c r old new v q n ∗ A.lft t.0 q))
+    concludes r n = qed 𝓛 (‵ (left_over c r old new v q n) ∷ ‵ (flft t.0 q) ∷ []) ∵ updating ! $ fsplit ! $ fpick ! (λ h. drop ! $ use2 𝓛 (later (raw (Rights c r old new v q n) ⊛ ‵ (flft t.0 q))) (ended_so r n) $ await ! tt $ split ! $ now ! $ check ! h $ done !)

@@ -61,6 +61,10 @@ Becomes zero old new right = Gains old new right
 Becomes (suc zero) old new right = ReaderBecomes old new right
 Becomes (suc (suc k)) old new right = WriterBecomes new right
 
+-- What a thread with this right sees in each word that it finds: a reader, that readers are counted; the writer, that the word is a writer's.
+abbrev pub Sees : ℕ → ℕ → Type 0
+Sees right word = (right ≡ 1 → (0 < word % 4) × (word % 4 < 3) × (0 < readers word)) × (right ≡ 2 → word % 4 ≡ 3)
+
 module _ {S W : Type 0} where
   -- Whatever word and state there are, and whatever the marks know: the mark id, which knew v, can know something by which the rule
   -- holds, and `tells` holds of the word found and of that

@@ -2,14 +2,16 @@
 ghost use Rattle.std.specs.Prelude.{◌≡◌, ◌≢◌, ℕ, ◌==◌, Option, None, Some};
 ghost use prog.Atomic.{either};
 ghost use Rattle.std.specs.Coded.{coded_option};
-ghost use Rattle.event_slot.specs.Ruling.{MayTurn, Becomes, Comes, MayTrade, StaysDue};
+ghost use Rattle.event_slot.specs.Ruling.{MayTurn, Becomes, Sees, Keeps, Comes, Enters, MayTrade, OwesStill, StaysDue};
 ghost use Rattle.event_slot.specs.Holding.{claim_owns, claim_shares};
 
-use crate::rule::{Mark, Ruled, Trades};
+use crate::rule::{Mark, Ruled, Tells, Trades};
 use crate::slot::Slot;
 use crate::writing::Writing;
 use atomic_table::exchange;
 use std::marker::{Brand, Model, PhantomData};
+use std::sync::atomic::Ordering::SeqCst;
+use std::sync::atomic::raw;
 
 /// What a thread has of a slot: a right to the value, which is 0 for none, 1 to read it and 2 to write it; and the state, if it
 /// is out with this claim.
@@ -52,6 +54,45 @@ impl<'a, X: Ruled<S>, S> Claim<'a, X, S> {
         let Claim { slot: _, marker: _ } = self;
     }
 
+    /// Returns the word, by one load, and the claim, which has what it had. Tells the mark as `M` says.
+    ///
+    /// The word shows what the claim's right says of it. A mark that owes a wake still owes it.
+    pub fn load<M: Tells<X::View>>(self, mark: &mut Mark<X::View>) -> (u64, Claim<'a, X, S>)
+        requires keeps { (mark.old.slot ≡ self.name)
+            × Keeps (X.holds self.key) mark.old.id mark.old.view (M.then mark.old.view) }
+        requires owes { OwesStill X.owes mark.old.view (M.then mark.old.view) }
+        ensures stays { (result.1.right ≡ self.entry.right) × (result.1.value ≡ self.entry.value)
+            × (result.1.state ≡ self.entry.state) × (result.1.name ≡ self.entry.name)
+            × (result.1.key ≡ self.entry.key) }
+        ensures sees { Sees self.entry.right (X.counts result.0) }
+        ensures tells { (mark.new.slot ≡ mark.old.slot) × (mark.new.id ≡ mark.old.id)
+            × M.then mark.old.view result.0 mark.new.view }
+    {
+        let Claim { slot, marker } = self;
+        let found = unsafe { raw::load::<Brand>(&raw const (*slot).word, SeqCst) };
+        (found, Claim { slot, marker })
+    }
+
+    /// Returns the word, by one load that makes a mark, with the claim, which has what it had, and that mark, which is told as
+    /// `M` says. The word shows what the claim's right says of it.
+    pub fn enter<M: Tells<X::View>>(self) -> (u64, Claim<'a, X, S>, Mark<X::View>)
+        requires keeps { Enters (X.holds self.key) (M.then (X.first self.key)) }
+        requires owes { OwesStill X.owes (X.first self.key) (M.then (X.first self.key)) }
+        ensures stays { (result.1.right ≡ self.entry.right) × (result.1.value ≡ self.entry.value)
+            × (result.1.state ≡ self.entry.state) × (result.1.name ≡ self.entry.name)
+            × (result.1.key ≡ self.entry.key) }
+        ensures sees { Sees self.entry.right (X.counts result.0) }
+        ensures tells { (result.2.slot ≡ self.entry.name)
+            × M.then (X.first self.entry.key) result.0 result.2.view }
+    {
+        let Claim { slot, marker } = self;
+        let found = unsafe { raw::load::<Brand>(&raw const (*slot).word, SeqCst) };
+        let mark = Mark {
+            marker: PhantomData,
+        };
+        (found, Claim { slot, marker }, mark)
+    }
+
     /// Changes the word from `old` to `new` by one compare-exchange, and returns the word as it was, and the claim afterwards.
     ///
     /// `MayTurn` lists the changes that a claim with this right may make, and `Becomes` says which right that leads to. If the
@@ -72,6 +113,7 @@ impl<'a, X: Ruled<S>, S> Claim<'a, X, S> {
         ensures becomes { (result.0 ≡ old → Becomes self.entry.right (X.counts old) (X.counts new) result.1.right)
             × (result.0 ≢ old → result.1.right ≡ self.entry.right) × (result.1.name ≡ self.entry.name)
             × (result.1.key ≡ self.entry.key) }
+        ensures sees { Sees self.entry.right (X.counts result.0) }
         ensures value { self.entry.right ≡ 1 → result.1.right ≡ 1
             → result.1.value ≡ self.entry.value }
         ensures tells { (mark.new.slot ≡ mark.old.slot) × (mark.new.id ≡ mark.old.id)
@@ -97,6 +139,7 @@ impl<'a, X: Ruled<S>, S> Claim<'a, X, S> {
         ensures becomes { (result.0 ≡ old → Becomes self.entry.right (X.counts old) (X.counts new) result.1.right)
             × (result.0 ≢ old → result.1.right ≡ self.entry.right) × (result.1.name ≡ self.entry.name)
             × (result.1.key ≡ self.entry.key) }
+        ensures sees { Sees self.entry.right (X.counts result.0) }
         ensures value { self.entry.right ≡ 1 → result.1.right ≡ 1
             → result.1.value ≡ self.entry.value }
         ensures tells { (result.2.slot ≡ self.entry.name)

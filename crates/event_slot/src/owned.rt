@@ -2,7 +2,7 @@
 ghost use Rattle.std.specs.Prelude.{◌≡◌, ◌≢◌, ℕ, ◌<◌, ◌==◌, ◌++◌, Option, None, Some, IsSome};
 ghost use prog.Atomic.{either};
 ghost use Rattle.std.specs.Coded.{coded_option};
-ghost use Rattle.event_slot.specs.Ruling.{MayTurn, Becomes, MayTrade, StaysDue};
+ghost use Rattle.event_slot.specs.Ruling.{MayTurn, Becomes, Sees, MayTrade, StaysDue};
 ghost use Rattle.event_slot.specs.Holding.{Named};
 ghost use Rattle.event_slot.specs.Owning.{owned_owns, owned_shares};
 
@@ -104,6 +104,7 @@ impl<T, X: Ruled<S>, S, A: Allocator> Owned<T, X, S, A> {
         ensures becomes { (result.0 ≡ old → Becomes self.right (X.counts old) (X.counts new) result.1.right)
             × (result.0 ≢ old → result.1.right ≡ self.right) × (result.1.name ≡ self.name)
             × (result.1.key ≡ self.key) × (result.1.of ≡ self.of) }
+        ensures sees { Sees self.right (X.counts result.0) }
         ensures value { self.right ≡ 1 → result.1.right ≡ 1 → result.1.value ≡ self.value }
         ensures has { 0 < result.1.right → IsSome result.1.value }
         ensures tells { (mark.new.slot ≡ mark.old.slot) × (mark.new.id ≡ mark.old.id)

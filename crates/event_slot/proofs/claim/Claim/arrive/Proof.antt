@@ -2,7 +2,7 @@
 use Rattle.event_slot.proofs.Names.{◌≡◌, ◌≢◌, ℕ, ◌+◌, ◌^◌, eqb, List, [], ◌∷◌, ◌++◌, refl, ap, w64, Option, a_type, dcons, dnil, Val, vint, vptr, vstruct, vcons, vnil, of_list, inst_fn, Coded, SProp, wand, emp, guard_i, via, apply∗, sem, Lft, Share, Fml, ftrue, fsep, feq, flft, shown, fact_i, fact_use, tables, either, ‵, raw, ◌⊛◌, some, given, later, mean, at_ret, ◌$◌, ◌∵◌, !, qed, by, move, keep, drop, split, split3, join, fsplit, fsplit3, fjoin, fpick, fpack, pick, learn, use0, use1, use2, use3, await, rewrite, feq_i, flt_i, stop, fld, addr, of_opd, no_more, and_then, first, blocks, exec, Calls-last, returns, enter, alloc_all, pass_all, free_all, look_at, get, get_in, through, sets, lands_last, is, env, agg, sub, whole, yes, no, RattleType, Valss, owns, types_at, plain, named_lft, Ptr, InBlock, block_ptr, ptr_val, block_of, count_of, at_block, nothing, param, param_laws, bounded, u64, uint_vals, uint_Tells, Stays, stay_dropped, walk_of, Goes-dropped, tail, proved, leaves, heard, ◌⊑◌}
 use denote.Struct.Owning.{shape}
 use Rattle.atomic_table.proofs.Calls.{fm, found, finds, exchanges}
-use Rattle.event_slot.specs.Ruling.{MayTurn, Becomes, Comes}
+use Rattle.event_slot.specs.Ruling.{MayTurn, Becomes, Sees, Comes}
 use Rattle.event_slot.specs.Holding.{Names, count, kept, right_to, lies, claim_owns}
 use Rattle.event_slot.specs.contracts.claim.Claim as claim
 use Rattle.event_slot.specs.contracts.rule.Mark as mark
@@ -52,7 +52,7 @@ arrive_spec 𝓤 𝓛 𝓜 𝓡 wired X S Y Ky Z LX _ _ _ _ g d h d' _ _ =
     sets ! (agg ! (and_then ! (get ! refl) (and_then ! (get ! refl) (no_more !)))) refl (tt, (tt, (tt, tt))) $ sets ! (of_opd ! (get ! refl)) refl (tt, (tt, tt)) $
     sets ! (agg ! (and_then ! (get ! refl) (and_then ! (get ! refl) (and_then ! (get ! refl) (no_more !))))) refl (tt, (record { fits = fits }, ((tt, (tt, tt)), ((tt, tt), tt)))) $
     -- [the slot's token; what is left of the right; the mark and what is out; a token of the value's lives; the way back; kept; the other tokens]
-    fsplit3 ! $ move ! (1 ∷ 0 ∷ []) $ use2 𝓛 (later (some (λ (w : ℕ × Option X.Denot). given (Answer g.counts r old new n v w.0 w.1) (‵ (right_to R b o t w.0 w.1))) ⊛ ‵ (flft t.0 s))) (concludes 𝓛 R b o t g.counts old new v s r n) $ await ! tt $ split ! $ pick ! (λ w. learn ! (λ said. let k : ℕ = w.0 in let v' : Option X.Denot = w.1 in
+    fsplit3 ! $ move ! (1 ∷ 0 ∷ []) $ use2 𝓛 (later (given (Sees r (g.counts n)) (some (λ (w : ℕ × Option X.Denot). given (Answer g.counts r old new n v w.0 w.1) (‵ (right_to R b o t w.0 w.1))) ⊛ ‵ (flft t.0 s)))) (concludes 𝓛 R b o t g.counts old new v s r n) $ await ! tt $ learn ! (λ sight. split ! $ pick ! (λ w. learn ! (λ said. let k : ℕ = w.0 in let v' : Option X.Denot = w.1 in
     -- [the right; the slot's token; the mark and what is out; a token of the value's lives; the way back; kept; the other tokens]
     move ! (1 ∷ 4 ∷ []) $ use2 𝓛 (later (‵ (flft β q))) (apply∗ 𝓤 (A.lft t.0 s) (H.⇛ (A.lft β q))) $ await ! tt $
     move ! (2 ∷ []) $ fpick ! (λ id. fpick ! (λ z. fsplit3 ! $ fpick ! (λ told. drop ! $
@@ -64,6 +64,6 @@ arrive_spec 𝓤 𝓛 𝓜 𝓡 wired X S Y Ky Z LX _ _ _ _ g d h d' _ _ =
     fpack ! (Valss (u64 ∷ Cr ∷ Mr ∷ [])) (λ uss. fsep (feq (List Val) (res ∷ []) (vstruct (of_list (uss.0 ++ (uss.1.0 ++ (uss.1.1.0 ++ [])))) ∷ [])) (owns (u64 ∷ Cr ∷ Mr ∷ []) (n, (hc', (m, tt))) uss)) (vint w64 n ∷ [], (pointing pt ∷ [], (token ∷ [], tt))) $
     -- [the result; the slot's token; a token of the value's lives; the other tokens]
     nothing ! $ nothing ! $ fjoin ! $ nothing ! $ fjoin ! $ nothing ! $ fjoin ! $ move ! (3 ∷ 4 ∷ []) $ join ! $ move ! (3 ∷ 0 ∷ []) $ join ! $
-    let Left : Type 0 = (n ≡ old → Becomes r (g.counts old) (g.counts new) k) × (n ≢ old → k ≡ r) × (γ ≡ γ) × (key ≡ key) in let Said : Type 0 = r ≡ 1 → k ≡ 1 → v' ≡ v in let Told : Type 0 = (γ ≡ γ) × then n z.0 z.1 in
-    use0 𝓛 (raw (shown 𝓤 Told)) (fact_i 𝓤 Told (emp 𝓤) (refl, told)) $ use0 𝓛 (raw (shown 𝓤 Said)) (fact_i 𝓤 Said (emp 𝓤) said.2) $ join ! $ use0 𝓛 (raw (shown 𝓤 Left)) (fact_i 𝓤 Left (emp 𝓤) (said.0, said.1, refl, refl)) $ join ! $
-    returns ! (look_at ! 0 refl) $ free_all ! refl $ keep ! (1 ∷ 2 ∷ 3 ∷ 0 ∷ []) $ by ! (leaves 𝓛 En hs c y res (n, hc', m) (tt, (tt, (tt, tt))) (tt, (tt, (tt, tt)))))))))))))))))))
+    let Left : Type 0 = (n ≡ old → Becomes r (g.counts old) (g.counts new) k) × (n ≢ old → k ≡ r) × (γ ≡ γ) × (key ≡ key) in let Sight : Type 0 = Sees r (g.counts n) in let Said : Type 0 = r ≡ 1 → k ≡ 1 → v' ≡ v in let Told : Type 0 = (γ ≡ γ) × then n z.0 z.1 in
+    use0 𝓛 (raw (shown 𝓤 Told)) (fact_i 𝓤 Told (emp 𝓤) (refl, told)) $ use0 𝓛 (raw (shown 𝓤 Said)) (fact_i 𝓤 Said (emp 𝓤) said.2) $ join ! $ use0 𝓛 (raw (shown 𝓤 Sight)) (fact_i 𝓤 Sight (emp 𝓤) sight) $ join ! $ use0 𝓛 (raw (shown 𝓤 Left)) (fact_i 𝓤 Left (emp 𝓤) (said.0, said.1, refl, refl)) $ join ! $
+    returns ! (look_at ! 0 refl) $ free_all ! refl $ keep ! (1 ∷ 2 ∷ 3 ∷ 0 ∷ []) $ by ! (leaves 𝓛 En hs c y res (n, hc', m) (tt, (tt, (tt, tt))) (tt, (tt, (tt, tt))))))))))))))))))))

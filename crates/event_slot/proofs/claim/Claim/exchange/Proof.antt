@@ -3,7 +3,7 @@ use Rattle.event_slot.proofs.Names.{◌≡◌, ◌≢◌, ℕ, ◌+◌, ◌^◌,
 use denote.Struct.Owning.{shape}
 use Rattle.atomic_table.proofs.Calls.{fm, found, finds, exchanges}
 use Rattle.atomic_table.specs.Marked.{mark_owns}
-use Rattle.event_slot.specs.Ruling.{MayTurn, Becomes, MayTrade}
+use Rattle.event_slot.specs.Ruling.{MayTurn, Becomes, Sees, MayTrade}
 use Rattle.event_slot.specs.Holding.{Names, count, kept, right_to, lies, claim_owns}
 use Rattle.event_slot.specs.contracts.claim.Claim as claim
 use Rattle.event_slot.specs.contracts.rule.Mark as mark
@@ -55,7 +55,7 @@ exchange_spec 𝓤 𝓛 𝓜 𝓡 wired X S Y Ky Z LX _ _ _ _ g d h d' _ _ =
     -- [the slot's token; what is left of the right; the mark and what is out; its way home; a token of the value's lives; the way back; kept; the other tokens]
     fsplit3 ! $ move ! (2 ∷ 3 ∷ []) $ use2 𝓛 (later (some (λ (z : Y.Denot × Option S.Denot). given (then n z.0 z.1) (‵ (Marks z.0) ⊛ ‵ (flft κs.1.0 qs.1.0) ⊛ ‵ (lies R Q b o t z.1))))) (brings 𝓛 V (named 1) κs.1.0 qs.1.0 x γ asked.0 R Q b o t (then n)) $ await ! tt $ pick ! (λ z. learn ! (λ told. split3 ! $
     -- [the mark; its token; the state; the slot's token; what is left of the right; a token of the value's lives; the way back; kept; the other tokens]
-    move ! (4 ∷ 3 ∷ []) $ use2 𝓛 (later (some (λ (w : ℕ × Option X.Denot). given (Answer g.counts r old new n v w.0 w.1) (‵ (right_to R b o t w.0 w.1))) ⊛ ‵ (flft t.0 s))) (concludes 𝓛 R b o t g.counts old new v s r n) $ await ! tt $ split ! $ pick ! (λ w. learn ! (λ said. let k : ℕ = w.0 in let v' : Option X.Denot = w.1 in
+    move ! (4 ∷ 3 ∷ []) $ use2 𝓛 (later (given (Sees r (g.counts n)) (some (λ (w : ℕ × Option X.Denot). given (Answer g.counts r old new n v w.0 w.1) (‵ (right_to R b o t w.0 w.1))) ⊛ ‵ (flft t.0 s)))) (concludes 𝓛 R b o t g.counts old new v s r n) $ await ! tt $ learn ! (λ sight. split ! $ pick ! (λ w. learn ! (λ said. let k : ℕ = w.0 in let v' : Option X.Denot = w.1 in
     move ! (1 ∷ 6 ∷ []) $ use2 𝓛 (later (‵ (flft β q))) (apply∗ 𝓤 (A.lft t.0 s) (H.⇛ (A.lft β q))) $ await ! tt $
     -- [the slot's token; the right; the mark; its token; the state; a token of the value's lives; kept; the other tokens]
     move ! (1 ∷ 4 ∷ []) $ fjoin ! $ move ! (5 ∷ 0 ∷ []) $ fjoin ! $ fpack ! Names (λ i. fsep (kept cw.code γ R Q g.counts (g.holds key) b o i β) (fsep (right_to R b o i k v') (lies R Q b o i z.1))) t $
@@ -65,6 +65,6 @@ exchange_spec 𝓤 𝓛 𝓜 𝓡 wired X S Y Ky Z LX _ _ _ _ g d h d' _ _ =
     fpack ! (Valss (u64 ∷ Cr ∷ [])) (λ uss. fsep (feq (List Val) (res ∷ []) (vstruct (of_list (uss.0 ++ (uss.1.0 ++ []))) ∷ [])) (owns (u64 ∷ Cr ∷ []) (n, (hc', tt)) uss)) (vint w64 n ∷ [], (pointing pt ∷ [], tt)) $
     -- [the result; the slot's token; the mark; its token; a token of the value's lives; the other tokens]
     nothing ! $ nothing ! $ fjoin ! $ nothing ! $ fjoin ! $ move ! (3 ∷ 0 ∷ []) $ fjoin ! $ nothing ! $ fjoin ! $ move ! (4 ∷ 5 ∷ []) $ join ! $ move ! (4 ∷ 0 ∷ []) $ join ! $ move ! (3 ∷ 0 ∷ []) $ join ! $
-    let Left : Type 0 = (n ≡ old → Becomes r (g.counts old) (g.counts new) k) × (n ≢ old → k ≡ r) × (γ ≡ γ) × (key ≡ key) in let Said : Type 0 = r ≡ 1 → k ≡ 1 → v' ≡ v in let Told : Type 0 = (m.slot ≡ m.slot) × (m.id ≡ m.id) × then n z.0 z.1 in
-    use0 𝓛 (raw (shown 𝓤 Told)) (fact_i 𝓤 Told (emp 𝓤) (refl, refl, told)) $ use0 𝓛 (raw (shown 𝓤 Said)) (fact_i 𝓤 Said (emp 𝓤) said.2) $ join ! $ use0 𝓛 (raw (shown 𝓤 Left)) (fact_i 𝓤 Left (emp 𝓤) (said.0, said.1, refl, refl)) $ join ! $
-    returns ! (look_at ! 0 refl) $ free_all ! refl $ keep ! (1 ∷ 2 ∷ 3 ∷ 0 ∷ []) $ by ! (leaves 𝓛 En hs c y res (n, hc') (tt, (knowing 𝓛 V (named 1) κs.1.0 qs.1.0 x γ asked.0 z.0, (tt, (tt, tt)))) (tt, (tt, (tt, (tt, tt)))))))))))))))))))
+    let Left : Type 0 = (n ≡ old → Becomes r (g.counts old) (g.counts new) k) × (n ≢ old → k ≡ r) × (γ ≡ γ) × (key ≡ key) in let Sight : Type 0 = Sees r (g.counts n) in let Said : Type 0 = r ≡ 1 → k ≡ 1 → v' ≡ v in let Told : Type 0 = (m.slot ≡ m.slot) × (m.id ≡ m.id) × then n z.0 z.1 in
+    use0 𝓛 (raw (shown 𝓤 Told)) (fact_i 𝓤 Told (emp 𝓤) (refl, refl, told)) $ use0 𝓛 (raw (shown 𝓤 Said)) (fact_i 𝓤 Said (emp 𝓤) said.2) $ join ! $ use0 𝓛 (raw (shown 𝓤 Sight)) (fact_i 𝓤 Sight (emp 𝓤) sight) $ join ! $ use0 𝓛 (raw (shown 𝓤 Left)) (fact_i 𝓤 Left (emp 𝓤) (said.0, said.1, refl, refl)) $ join ! $
+    returns ! (look_at ! 0 refl) $ free_all ! refl $ keep ! (1 ∷ 2 ∷ 3 ∷ 0 ∷ []) $ by ! (leaves 𝓛 En hs c y res (n, hc') (tt, (knowing 𝓛 V (named 1) κs.1.0 qs.1.0 x γ asked.0 z.0, (tt, (tt, tt)))) (tt, (tt, (tt, (tt, tt))))))))))))))))))))

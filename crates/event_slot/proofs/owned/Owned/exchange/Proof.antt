@@ -7,7 +7,7 @@ use Rattle.core.proofs.alloc.Calls.{Goes-blank}
 use Rattle.counted_slot.specs.Counting.{fact}
 use Rattle.atomic_table.proofs.Calls.{fm, found, finds, exchanges}
 use Rattle.atomic_table.specs.Marked.{mark_owns}
-use Rattle.event_slot.specs.Ruling.{MayTurn, Becomes, MayTrade}
+use Rattle.event_slot.specs.Ruling.{MayTurn, Becomes, Sees, MayTrade}
 use Rattle.event_slot.specs.Holding.{Names, count, kept, right_to, lies, claim_owns}
 use Rattle.event_slot.specs.contracts.owned.Owned as owned
 use Rattle.event_slot.specs.contracts.rule.Mark as mark
@@ -77,7 +77,7 @@ exchange_spec 𝓤 𝓛 𝓜 𝓡 wired T X S A' Y Ky Z LT LX _ LA _ _ _ g d f d
     -- [the slot's token; what is left of the right; the mark and what is out; its way home; a token of the value's lives; the way back; kept; the rest]
     fsplit3 ! $ move ! (2 ∷ 3 ∷ []) $ use2 𝓛 (later (some (λ (w : Y.Denot × Option S.Denot). given (then n w.0 w.1) (‵ (Marks w.0) ⊛ ‵ (flft κ κq) ⊛ ‵ (lies R Q b o t w.1))))) (brings 𝓛 V (named 0) κ κq x γ asked.0 R Q b o t (then n)) $ await ! tt $ pick ! (λ w. learn ! (λ told. split3 ! $
     -- [the mark; its token; the state; the slot's token; what is left of the right; a token of the value's lives; the way back; kept; the rest]
-    move ! (4 ∷ 3 ∷ []) $ use2 𝓛 (later (some (λ (j : ℕ × Option X.Denot). given (Answer g.counts r old new n v j.0 j.1) (‵ (right_to R b o t j.0 j.1))) ⊛ ‵ (flft t.0 s))) (concludes 𝓛 R b o t g.counts old new v s r n) $ await ! tt $ split ! $ pick ! (λ j. learn ! (λ said. let k' : ℕ = j.0 in let v' : Option X.Denot = j.1 in let Has : Type 0 = 0 < k' → IsSome v' in
+    move ! (4 ∷ 3 ∷ []) $ use2 𝓛 (later (given (Sees r (g.counts n)) (some (λ (j : ℕ × Option X.Denot). given (Answer g.counts r old new n v j.0 j.1) (‵ (right_to R b o t j.0 j.1))) ⊛ ‵ (flft t.0 s)))) (concludes 𝓛 R b o t g.counts old new v s r n) $ await ! tt $ learn ! (λ sight. split ! $ pick ! (λ j. learn ! (λ said. let k' : ℕ = j.0 in let v' : Option X.Denot = j.1 in let Has : Type 0 = 0 < k' → IsSome v' in
     use1 𝓛 (given Has (‵ (right_to R b o t k' v'))) (fact_use 𝓤 _ (right_has 𝓛 β R b o t k' v') (guard_i 𝓤 Has (sem 𝓛 (right_to R b o t k' v')))) $ learn ! (λ has.
     move ! (1 ∷ 6 ∷ []) $ use2 𝓛 (later (‵ (flft β q))) (apply∗ 𝓤 (A.lft t.0 s) (H.⇛ (A.lft β q))) $ await ! tt $
     -- [the slot's token; the right; the mark; its token; the state; a token of the value's lives; kept; the rest]
@@ -92,6 +92,6 @@ exchange_spec 𝓤 𝓛 𝓜 𝓡 wired T X S A' Y Ky Z LT LX _ LA _ _ _ g d f d
     fpack ! (Valss (u64 ∷ Or ∷ [])) (λ uss. fsep (feq (List Val) (res ∷ []) (vstruct (of_list (uss.0 ++ (uss.1.0 ++ []))) ∷ [])) (owns (u64 ∷ Or ∷ []) (n, (ho', tt)) uss)) (vint w64 n ∷ [], (housing pt u ∷ [], tt)) $
     -- [the result; others; the value's; the state's; the arc's value's; the mark; its token]
     nothing ! $ nothing ! $ fjoin ! $ nothing ! $ fjoin ! $ move ! (6 ∷ 0 ∷ []) $ fjoin ! $ nothing ! $ fjoin ! $ move ! (4 ∷ 2 ∷ []) $ join ! $ move ! (3 ∷ 0 ∷ []) $ join ! $ move ! (3 ∷ 0 ∷ []) $ join ! $ move ! (3 ∷ 0 ∷ []) $ join ! $
-    let Left : Type 0 = (n ≡ old → Becomes r (g.counts old) (g.counts new) k') × (n ≢ old → k' ≡ r) × (γ ≡ γ) × (key ≡ key) × (ho.of ≡ ho.of) in let Said : Type 0 = r ≡ 1 → k' ≡ 1 → v' ≡ v in let Told : Type 0 = (m.slot ≡ m.slot) × (m.id ≡ m.id) × then n w.0 w.1 in
-    use0 𝓛 (raw (shown 𝓤 Told)) (fact_i 𝓤 Told (emp 𝓤) (refl, refl, told)) $ use0 𝓛 (raw (shown 𝓤 Has)) (fact_i 𝓤 Has (emp 𝓤) has) $ join ! $ use0 𝓛 (raw (shown 𝓤 Said)) (fact_i 𝓤 Said (emp 𝓤) said.2) $ join ! $ use0 𝓛 (raw (shown 𝓤 Left)) (fact_i 𝓤 Left (emp 𝓤) (said.0, said.1, refl, refl, refl)) $ join ! $
-    returns ! (look_at ! 0 refl) $ free_all ! refl $ keep ! (1 ∷ 2 ∷ 3 ∷ 0 ∷ []) $ by ! (leaves 𝓛 En hs c y res (n, ho') ((tt, (tt, tt)), (knowing 𝓛 V (named 0) κ κq x γ asked.0 w.0, (tt, (tt, tt)))) (tt, (tt, (tt, (tt, tt)))))))))))))))))))))))))))
+    let Left : Type 0 = (n ≡ old → Becomes r (g.counts old) (g.counts new) k') × (n ≢ old → k' ≡ r) × (γ ≡ γ) × (key ≡ key) × (ho.of ≡ ho.of) in let Sight : Type 0 = Sees r (g.counts n) in let Said : Type 0 = r ≡ 1 → k' ≡ 1 → v' ≡ v in let Told : Type 0 = (m.slot ≡ m.slot) × (m.id ≡ m.id) × then n w.0 w.1 in
+    use0 𝓛 (raw (shown 𝓤 Told)) (fact_i 𝓤 Told (emp 𝓤) (refl, refl, told)) $ use0 𝓛 (raw (shown 𝓤 Has)) (fact_i 𝓤 Has (emp 𝓤) has) $ join ! $ use0 𝓛 (raw (shown 𝓤 Said)) (fact_i 𝓤 Said (emp 𝓤) said.2) $ join ! $ use0 𝓛 (raw (shown 𝓤 Sight)) (fact_i 𝓤 Sight (emp 𝓤) sight) $ join ! $ use0 𝓛 (raw (shown 𝓤 Left)) (fact_i 𝓤 Left (emp 𝓤) (said.0, said.1, refl, refl, refl)) $ join ! $
+    returns ! (look_at ! 0 refl) $ free_all ! refl $ keep ! (1 ∷ 2 ∷ 3 ∷ 0 ∷ []) $ by ! (leaves 𝓛 En hs c y res (n, ho') ((tt, (tt, tt)), (knowing 𝓛 V (named 0) κ κq x γ asked.0 w.0, (tt, (tt, tt)))) (tt, (tt, (tt, (tt, tt))))))))))))))))))))))))))))
