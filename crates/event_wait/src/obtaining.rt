@@ -1,5 +1,5 @@
 //! Waits, blocking or awaited.
-ghost use Rattle.std.specs.Prelude.{◌≡◌, None, Err, IfErr, IfOk, IfSome, IsSomeAnd};
+ghost use Rattle.std.specs.Prelude.{◌≡◌, None, Err, IfErr, IfOk, IfSome, IsSomeAnd, Some};
 ghost use Rattle.futures.specs.Poll.{IfReady, OnPending};
 ghost use Rattle.futures.specs.Task.{Covers, Keeps};
 ghost use Rattle.futures.specs.declared.task.Poll.TheVariants.{Ready};
@@ -112,6 +112,55 @@ impl<L: TakesAny<Q, Refusal = LockError>, Q: Default + Drop, H: Hold<L> + Drop> 
         // A request that is in no queue has nothing to lose by a new request. Were this request passed by a pointer, a thread
         // that gets its output at once would clear a place for it.
         wait_anew(hold, alloc)
+    }
+}
+
+impl<L: TakesAny<Q>, Q: Drop, H: Hold<L> + Drop> Obtaining<L, Q, H> {
+    /// Takes a wait that is in no queue apart, for an attempt that takes the hold by value, and returns the hold and the allocator.
+    ///
+    /// An error is the wait itself: it has a place in a queue, or is over. Does nothing else.
+    #[inline(always)]
+    pub fn begin(self) -> Result<(H, Global), Self>
+        ensures begun { IfOk result (λ got. self.hold ≡ Some got.0) }
+        ensures kept { IfErr result (λ rest. rest.hold ≡ self.hold) }
+    {
+        let Obtaining {
+            hold,
+            alloc,
+            request,
+            lock,
+        } = self;
+        let hold = match hold {
+            Some(hold) => {
+                if !hold.lock().is_waiting(&request) {
+                    return Ok((hold, alloc));
+                }
+                Some(hold)
+            }
+            None => None,
+        };
+        Err(Obtaining {
+            hold,
+            alloc,
+            request,
+            lock,
+        })
+    }
+
+    /// Takes the hold out of a wait that is in no queue, for an attempt that takes the hold by value, and returns the hold.
+    ///
+    /// Returns `None` if the wait has a place in a queue, or is over; the wait is as it was then. A caller whose attempt got
+    /// nothing puts the hold back.
+    pub fn take_hold(&mut self) -> Option<H>
+        ensures taken { IfSome result (λ hold. (self.old.hold ≡ Some hold) × (self.new.hold ≡ None)) }
+        ensures kept { result ≡ None → self.new.hold ≡ self.old.hold }
+    {
+        let hold = self.hold.take()?;
+        if hold.lock().is_waiting(&self.request) {
+            self.hold = Some(hold);
+            return None;
+        }
+        Some(hold)
     }
 }
 
