@@ -214,19 +214,19 @@ module _ {S : Type 0} (rules : Rules S) where
     alone = all_set (λ by u. IsOut id m by u.number) vs id (numbered m) (refl, refl) (λ by u ne at. subst (IsOut id m by) (sym (others by u ne at)) tt);
   }
 
-  took_at : (n id old new : ℕ) (v : View) (home : Option S) (vs : Vs) → old % 2 ≡ 0 → Takes rules old new → get_elem? vs id ≡ some v → n ≡ old → StateIn rules n home vs → Goes n home vs id None (took rules old new v None) new
-  took_at n id old new v None vs even c me hit h = absurd (odd_is_not_even n h.away (subst (λ (x : ℕ). x % 2 ≡ 0) (sym hit) even))
-  took_at n id old new v (Some q) vs even c me hit h = (
+  took_at : (n id old new : ℕ) (v : View) (home : Option S) (vs : Vs) → old % 2 ≡ 0 → Takes rules old new → get_elem? vs id ≡ some v → n ≡ old → Law n home vs → Goes n home vs id None (took rules old new v None) new
+  took_at n id old new v None vs even c me hit k = let h = k.state in absurd (odd_is_not_even n h.away (subst (λ (x : ℕ). x % 2 ≡ 0) (sym hit) even))
+  took_at n id old new v (Some q) vs even c me hit k = let h = k.state in (
     numbered (number_of new),
     true,
     record { fits = c.fits; state = goes_out new id (number_of new) vs v c.out (λ _ p. p) me (λ by u _ at. h.1 by u at) },
-    ((λ _. (q, refl, refl, subst (λ (x : ℕ). rules.stands (number_of x) q) hit h.0.stands)), λ miss. absurd (miss hit)),
+    ((λ _. (q, refl, refl, subst (λ (x : ℕ). rules.stands (number_of x) q) hit h.0.stands)), (λ miss. absurd (miss hit)), k.fits),
   )
 
   takes_none : (id : ℕ) (v : View) (old new : ℕ) → old % 2 ≡ 0 → Takes rules old new → MayTrade Law id v None (λ n. either (eqb n old) new n) (took rules old new v None)
   takes_none id v old new even c n home vs k me small = exchanged n old new (Goes n home vs id None (took rules old new v None))
-      (λ hit. took_at n id old new v home vs even c me hit k.state)
-      (λ miss. (v, false, unmoved n id v home vs me k, ((λ hit. absurd (miss hit)), λ _. (refl, refl))))
+      (λ hit. took_at n id old new v home vs even c me hit k)
+      (λ miss. (v, false, unmoved n id v home vs me k, ((λ hit. absurd (miss hit)), (λ _. (refl, refl)), k.fits)))
 
   -- the state is taken out
   pub takes_out : (id : ℕ) (v : View) (out : Option S) (old new : ℕ) → out ≡ None → old % 2 ≡ 0 → Takes rules old new → MayTrade Law id v out (λ n. either (eqb n old) new n) (took rules old new v out)

@@ -9,7 +9,7 @@ use Rattle.event_word.specs.Count.{IsCount, counted, readers_of, writers_of}
 use Rattle.event_wait.specs.Line.{HandsOut}
 use Rattle.event_word.specs.Rules.{Rules}
 use Rattle.event_word.specs.declared.word.rule.View.{View}
-use Rattle.event_word.specs.Word.{Changes, EasesFrom, Passes, Takes, counts_of}
+use Rattle.event_word.specs.Word.{Changes, EasesFrom, Passes, Shows, Takes, counts_of}
 use Rattle.event_wait.specs.declared.error.LockError.{LockError}
 use Rattle.event_wait.specs.declared.error.LockError.TheVariants.{Listen, Memory, TooManyReaders, Finished}
 use Rattle.event_word.specs.declared.shares.queues.Queues.{Queues}
@@ -152,6 +152,10 @@ counted_in w = counts_of (lock_rules {W = Task}) w
 pub record Recounts (right left : ℕ) (old new : ℕ) : Type 0 where
   pub changes : Changes (lock_rules {W = Task}) old new
   pub passes : Passes (lock_rules {W = Task}) right left old new
+
+-- the word counts a holder with this right
+abbrev pub CountsOne : ℕ → ℕ → Type 0
+CountsOne right word = Shows (lock_rules {W = Task}) right word
 
 -- the same by a step that takes the queues out
 pub record RecountsAndTakes (right left : ℕ) (old new : ℕ) : Type 0 where

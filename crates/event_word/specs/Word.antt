@@ -2,7 +2,7 @@
 use Rattle.std.specs.Prelude.{◌≡◌, ◌≢◌, ℕ, ◌/◌, ◌%◌, eqb, Bool, true, false, Option, Some, None, List}
 use mathlib.Core.Option.{some}
 use lib.ListN.{get_elem?}
-use Rattle.event_slot.specs.Ruling.{MayTurn, Becomes}
+use Rattle.event_slot.specs.Ruling.{MayTurn, Becomes, Sees}
 use Rattle.event_word.specs.declared.word.rule.View.{View}
 use Rattle.event_word.specs.Rules.{Rules}
 
@@ -95,6 +95,10 @@ module _ {S : Type 0} (rules : Rules S) where
     pub may : MayTurn right (counts_of old) (counts_of new)
     pub has : (k : ℕ) → Becomes right (counts_of old) (counts_of new) k → k ≡ left
 
+  -- the word shows that a thread has this right
+  abbrev pub Shows : ℕ → ℕ → Type 0
+  Shows right w = Sees right (counts_of w) × rules.fits (number_of w)
+
   abbrev pub StateIn : ℕ → Option S → List View → Type 0
   StateIn w None views = IsAway w views
   StateIn w (Some q) views = AtHome w q × ((by : ℕ) (v : View) → get_elem? views by ≡ some v → v.number ≡ None)
@@ -130,6 +134,7 @@ module _ {S : Type 0} (rules : Rules S) where
   took old new v out r u out' =
       (r ≡ old → (q : S) × (u ≡ numbered (number_of new)) × (out' ≡ Some q) × rules.stands (number_of old) q)
       × (r ≢ old → (u ≡ v) × (out' ≡ out))
+      × rules.fits (number_of r)
 
 module _ {S : Type 0} where
   -- whoever has the state out changed the number, and remembers it

@@ -1,6 +1,6 @@
 //! A lock on one word.
 ghost use Rattle.std.specs.Prelude.{◌≡◌, ◌^◌, ◌<◌};
-ghost use Rattle.event_word.specs.Word.{nothing, number_of};
+ghost use Rattle.event_word.specs.Word.{Shows, nothing, number_of};
 
 mod competing;
 pub(crate) mod held;
@@ -26,7 +26,7 @@ pub use self::rule::{Place, View};
 pub(crate) use self::rule::{Change, Enter};
 pub use self::step::Step;
 pub use self::value::{Lent, Lodging, put_in, take_out};
-use event_slot::{Mark, Slot};
+use event_slot::{Claim, Mark, Slot};
 
 /// What a thread knows that makes steps on a lock's word. A seat has no bytes.
 pub type Seat = Mark<View>;
@@ -91,6 +91,22 @@ impl<S: Kept, V> Word<S, V> {
         ensures fits { S.rules.fits (number_of result.0) }
     {
         self.slot.enter::<Enter<S>>()
+    }
+
+    // Returns the word, which shows the right of the thread that looks, with the claim and a new seat. The call costs one load.
+    #[inline(always)]
+    #[tactic(auto, using(crate::proofs::WordKeeps::sits, crate::proofs::WordKeeps::due_enters))]
+    pub(crate) fn look_as<'a>(
+        &self,
+        claim: Claim<'a, Place<V>, S>,
+    ) -> (u64, Claim<'a, Place<V>, S>, Seat)
+        requires own { claim.name ≡ self.now.slot.name }
+        ensures own { (result.1.name ≡ self.now.slot.name) × (result.1.right ≡ claim.entry.right)
+            × (result.1.state ≡ claim.entry.state) }
+        ensures seat { (result.2.slot ≡ self.now.slot.name) × (result.2.view ≡ nothing) }
+        ensures shows { Shows S.rules claim.entry.right result.0 }
+    {
+        claim.enter::<Enter<S>>()
     }
 
     /// Returns the word as it is now. The call costs one load, and the seat knows as much as before.

@@ -3,7 +3,7 @@
 ghost use Rattle.std.specs.Prelude.{◌≡◌, ◌≢◌, ◌<◌, ◌%◌, ◌↔◌, None, IfSome, IsTrue};
 ghost use Rattle.event_word.specs.Count.{active_readers_of, readers_of, writers_of};
 ghost use Rattle.event_word.specs.Word.{number_of};
-ghost use Rattle.event_word.specs.Queues.{Recounts};
+ghost use Rattle.event_word.specs.Queues.{CountsOne, Recounts};
 
 /// What one reader adds to the word.
 pub(crate) const READER: u64 = 8;
@@ -74,6 +74,7 @@ pub fn is_written(number: u64) -> bool
 pub(crate) fn writer_reads(word: u64) -> Option<u64>
     ensures step { IfSome result (Recounts 2 1 word) }
     ensures counts { IfSome result (λ new. (number_of word ≡ 1) × (number_of new ≡ 2)) }
+    ensures one { IfSome result (CountsOne 1) }
     ensures refused { result ≡ None → word % 4 ≡ 0 → number_of word ≢ 1 }
 {
     if word != WRITER {
@@ -88,6 +89,7 @@ pub(crate) fn reader_writes(word: u64) -> Option<u64>
     ensures step { IfSome result (Recounts 1 2 word) }
     ensures passes_nobody { IfSome result (λ _. word % 4 ≡ 0) }
     ensures counts { IfSome result (λ new. (number_of word ≡ 2) × (number_of new ≡ 1)) }
+    ensures one { IfSome result (CountsOne 2) }
     ensures refused { result ≡ None → word % 4 ≡ 0 → number_of word ≢ 2 }
 {
     if word != READER {

@@ -55,21 +55,15 @@ impl<W> Right<W> for Reading {
     }
 
     #[inline(always)]
-    fn word_out(word: u64) -> Option<Leaving> {
-        if number::active_readers(word / ONE) == 0 {
-            return None;
-        }
+    fn word_out(word: u64) -> Leaving {
         if word < 2 * READER && word % 4 == CROWDED {
-            return Some(Leaving::Taking(word - READER - 1));
+            return Leaving::Taking(word - READER - 1);
         }
-        Some(Leaving::Going(word - READER))
+        Leaving::Going(word - READER)
     }
 
-    fn word_parked(word: u64) -> Option<u64> {
-        if number::active_readers(word / ONE) == 0 {
-            return None;
-        }
-        Some(word - READER + PARKED_READER)
+    fn word_parked(word: u64) -> u64 {
+        word - READER + PARKED_READER
     }
 
     fn word_unparked(word: u64) -> Option<u64> {

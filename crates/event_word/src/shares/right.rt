@@ -7,7 +7,7 @@ ghost use Rattle.event_wait.specs.Line.{HasLeft, IsNotIn, IsNotInUnlessWaits, Lo
 ghost use Rattle.event_word.specs.declared.shares.queues.Queues.{Queues};
 ghost use Rattle.event_word.specs.Count.{IsCount, readers_of, writers_of};
 ghost use Rattle.event_word.specs.Leaving.{IfGoing, IfTaking, becomes};
-ghost use Rattle.event_word.specs.Queues.{Admits, IsExclusive, Recounts, RecountsAndTakes, counted_in, joined_by};
+ghost use Rattle.event_word.specs.Queues.{Admits, CountsOne, IsExclusive, Recounts, RecountsAndTakes, counted_in, joined_by};
 ghost use Rattle.event_slot.specs.Ruling.{Becomes, MayTurn};
 ghost use Rattle.event_word.specs.Word.{number_of};
 
@@ -53,7 +53,8 @@ pub trait Right<W> {
         requires { IsCount (number_of word) }
         ensures home { IfSome result (λ _. word % 4 ≡ 0) }
         ensures step { IfSome result (Recounts 0 RIGHT word) }
-        ensures counts { IfSome result (λ new. number_of new ≡ number_of word + COUNTS) };
+        ensures counts { IfSome result (λ new. number_of new ≡ number_of word + COUNTS) }
+        ensures one { IfSome result (CountsOne RIGHT) };
 
     /// Returns the word with one more holder, for a thread that has the queues out and found that one more may be admitted.
     fn word_with(word: u64) -> u64
@@ -67,29 +68,28 @@ pub trait Right<W> {
         ensures has { (k : ℕ) → Becomes 0 (counted_in word) (counted_in result) k
             → (q : Queues W) → Admits COUNTS (number_of word) q → k ≡ RIGHT };
 
-    /// Returns the word with one holder less, or `None` if the word counts no holder that is not parked. The queues are taken out
-    /// where a waiter may be next.
-    fn word_out(word: u64) -> Option<Leaving>
-        requires { IsCount (number_of word) }
-        ensures going { IfSome result (λ leaving. IfGoing leaving (Recounts RIGHT 0 word)) }
-        ensures taking { IfSome result (λ leaving. IfTaking leaving (RecountsAndTakes RIGHT 0 word)) }
-        ensures last { IfSome result (λ leaving. IfTaking leaving (λ new. (number_of word ≡ COUNTS)
-            × (number_of new ≡ 0))) }
-        ensures ends { IfSome result (λ leaving. ends (number_of word) (number_of (becomes leaving))) };
+    /// Returns the word with one holder less, for a holder that is not parked. The queues are taken out where a waiter may be next.
+    fn word_out(word: u64) -> Leaving
+        requires { CountsOne RIGHT word }
+        ensures going { IfGoing result (Recounts RIGHT 0 word) }
+        ensures taking { IfTaking result (RecountsAndTakes RIGHT 0 word) }
+        ensures last { IfTaking result (λ new. (number_of word ≡ COUNTS) × (number_of new ≡ 0)) }
+        ensures ends { ends (number_of word) (number_of (becomes result)) };
 
-    /// Returns the word once a holder is parked, or `None` if the word counts no holder that is not parked.
-    fn word_parked(word: u64) -> Option<u64>
-        requires { IsCount (number_of word) }
-        ensures step { IfSome result (Recounts RIGHT 0 word) }
-        ensures same { IfSome result (λ new. (readers_of (number_of new) ≡ readers_of (number_of word))
-            × (writers_of (number_of new) ≡ writers_of (number_of word))) };
+    /// Returns the word once a holder that is not parked is parked.
+    fn word_parked(word: u64) -> u64
+        requires { CountsOne RIGHT word }
+        ensures step { Recounts RIGHT 0 word result }
+        ensures same { (readers_of (number_of result) ≡ readers_of (number_of word))
+            × (writers_of (number_of result) ≡ writers_of (number_of word)) };
 
     /// Returns the word once a holder is parked no more, or `None` if the word counts no parked holder.
     fn word_unparked(word: u64) -> Option<u64>
         requires { IsCount (number_of word) }
         ensures step { IfSome result (Recounts 0 RIGHT word) }
         ensures same { IfSome result (λ new. (readers_of (number_of new) ≡ readers_of (number_of word))
-            × (writers_of (number_of new) ≡ writers_of (number_of word))) };
+            × (writers_of (number_of new) ≡ writers_of (number_of word))) }
+        ensures counts { IfSome result (CountsOne RIGHT) };
 
     /// Returns whether the number alone shows that a holder stands in the way of a newcomer.
     fn is_barred(number: u64) -> bool

@@ -3,7 +3,7 @@ ghost use Rattle.std.specs.Prelude.{◌≡◌, ◌+◌, ◌-◌, ◌*◌, ◌<�
 ghost use Rattle.event_word.specs.Count.{IsCount, readers_of, writers_of};
 ghost use Rattle.event_wait.specs.declared.lock.task.Task.{Task};
 ghost use Rattle.event_word.specs.Leaving.{IfGoing, IfTaking, becomes};
-ghost use Rattle.event_word.specs.Queues.{Admits, CountsAsReader, CountsAsWriter, CountsMore, IsExclusive, MayUpgrade, Recounts, RecountsAndTakes, given, if_any, lock_rules};
+ghost use Rattle.event_word.specs.Queues.{Admits, CountsAsReader, CountsAsWriter, CountsMore, CountsOne, IsExclusive, MayUpgrade, Recounts, RecountsAndTakes, given, if_any, lock_rules};
 ghost use Rattle.event_word.specs.Held.{HasState, IsOf};
 ghost use Rattle.event_word.specs.Word.{EasesFrom, nothing, number_of};
 
@@ -76,8 +76,8 @@ impl<V> Word<Queues<Task>, V> {
         ensures seat { (seat.new.slot ≡ seat.old.slot) × (seat.new.view ≡ seat.old.view) }
         ensures own { IfSome result (λ grant. grant.claim.name ≡ self.now.slot.name) }
     {
-        let (made, claim) = self.turn(self.slot.claim(), seat, seen, new);
-        if made {
+        let (found, claim) = self.turn(self.slot.claim(), seat, seen, new);
+        if found == seen {
             return Some(Grant::new(claim));
         }
         claim.done();
@@ -92,41 +92,62 @@ impl<V> Word<Queues<Task>, V> {
     pub fn end<K: Right<Task>, R: Wait>(&self, rt: &R, grant: Grant<'_, K, V>)
         requires { grant.claim.name ≡ self.now.slot.name }
     {
-        let (seen, mut seat) = self.look();
+        let (seen, grant, mut seat) = self.look_holding(grant);
         match K::word_out(seen) {
-            Some(Leaving::Going(new)) => match self.dismiss(grant, &mut seat, seen, new) {
+            Leaving::Going(new) => match self.dismiss(grant, &mut seat, seen, new) {
                 Ok(()) => {}
-                Err(again) => self.end_slowly(rt, again),
+                Err((again, found)) => self.end_slowly(rt, again, seat, found),
             },
-            _ => self.end_slowly(rt, grant),
+            Leaving::Taking(_) => self.end_slowly(rt, grant, seat, seen),
         }
     }
 
-    // The word counts a holder as long as it has its right.
+    // Returns the word, which counts the holder, with its right and a new seat. The call costs one load.
+    #[inline(always)]
+    fn look_holding<'a, K: Right<Task>>(
+        &self,
+        grant: Grant<'a, K, V>,
+    ) -> (u64, Grant<'a, K, V>, Seat)
+        requires { grant.claim.name ≡ self.now.slot.name }
+        ensures own { result.1.claim.name ≡ self.now.slot.name }
+        ensures seat { (result.2.slot ≡ self.now.slot.name) × (result.2.view ≡ nothing) }
+        ensures counts { CountsOne K.RIGHT result.0 }
+    {
+        let (seen, claim, seat) = self.look_as(grant.into_claim());
+        (seen, Grant::new(claim), seat)
+    }
+
+    // The word counts a holder as long as it has its right, so each word found tells how it is once the holder has left.
     #[cold]
     #[inline(never)]
-    fn end_slowly<K: Right<Task>, R: Wait>(&self, rt: &R, grant: Grant<'_, K, V>)
-        requires { grant.claim.name ≡ self.now.slot.name }
+    fn end_slowly<K: Right<Task>, R: Wait>(
+        &self,
+        rt: &R,
+        grant: Grant<'_, K, V>,
+        seat: Seat,
+        word: u64,
+    )
+        requires own { grant.claim.name ≡ self.now.slot.name }
+        requires seat { (seat.slot ≡ self.now.slot.name) × (seat.view ≡ nothing) }
+        requires counts { CountsOne K.RIGHT word }
     {
         let mut grant = grant;
-        let (mut seen, mut seat) = self.look();
+        let (mut seen, mut seat) = (word, seat);
         for _ in rt.forever() {
-            if let Some(leaving) = K::word_out(seen) {
-                match self.go(rt, grant, seat, seen, leaving) {
-                    Ok(()) => return,
-                    Err((again, at)) => {
-                        grant = again;
-                        seat = at;
-                    }
+            match self.go(rt, grant, seat, seen, K::word_out(seen)) {
+                Ok(()) => return,
+                Err((again, at, found)) => {
+                    grant = again;
+                    seat = at;
+                    seen = found;
                 }
             }
-            seen = self.look_again(&mut seat);
         }
         unreachable!()
     }
 
-    // Ends a right by this step, and lets in the waiters that are next if the step takes the queues out. An error has the right
-    // and the seat where the word is another.
+    // Ends a right by this step, and lets in the waiters that are next if the step takes the queues out. An error has the
+    // right, the seat and the word, where that is another.
     fn go<'a, K: Right<Task>, R: Wait>(
         &self,
         rt: &R,
@@ -134,32 +155,33 @@ impl<V> Word<Queues<Task>, V> {
         mut seat: Seat,
         seen: u64,
         leaving: Leaving,
-    ) -> Result<(), (Grant<'a, K, V>, Seat)>
+    ) -> Result<(), (Grant<'a, K, V>, Seat, u64)>
         requires own { grant.claim.name ≡ self.now.slot.name }
         requires seat { (seat.slot ≡ self.now.slot.name) × (seat.view ≡ nothing) }
         requires going { IfGoing leaving (Recounts K.RIGHT 0 seen) }
         requires taking { IfTaking leaving (RecountsAndTakes K.RIGHT 0 seen) }
         requires last { IfTaking leaving (λ new. number_of new ≡ 0) }
         requires ends { K.ends (number_of seen) (number_of (becomes leaving)) }
-        ensures { IfErr result (λ again. (again.0.claim.name ≡ self.now.slot.name)
+        ensures own { IfErr result (λ again. (again.0.claim.name ≡ self.now.slot.name)
             × (again.1.slot ≡ seat.slot) × (again.1.view ≡ nothing)) }
+        ensures counts { IfErr result (λ again. CountsOne K.RIGHT again.2) }
     {
         match leaving {
             Leaving::Going(new) => match self.dismiss(grant, &mut seat, seen, new) {
                 Ok(()) => Ok(()),
-                Err(again) => Err((again, seat)),
+                Err((again, found)) => Err((again, seat, found)),
             },
             Leaving::Taking(new) => match self.turn_out(grant.into_claim(), seat, seen, new) {
                 Ok(held) => {
                     self.put_back(rt, held);
                     Ok(())
                 }
-                Err((claim, seat)) => Err((Grant::new(claim), seat)),
+                Err((claim, seat, found)) => Err((Grant::new(claim), seat, found)),
             },
         }
     }
 
-    // Ends a right by this step, and lets in no waiter. An error has the right where the word is another.
+    // Ends a right by this step, and lets in no waiter. An error has the right and the word, where that is another.
     #[inline(always)]
     fn dismiss<'a, K: Right<Task>>(
         &self,
@@ -167,20 +189,21 @@ impl<V> Word<Queues<Task>, V> {
         seat: &mut Seat,
         seen: u64,
         new: u64,
-    ) -> Result<(), Grant<'a, K, V>>
+    ) -> Result<(), (Grant<'a, K, V>, u64)>
         requires own { grant.claim.name ≡ self.now.slot.name }
         requires seat { seat.old.slot ≡ self.now.slot.name }
         requires step { Recounts K.RIGHT 0 seen new }
         requires ends { K.ends (number_of seen) (number_of new) }
         ensures seat { (seat.new.slot ≡ seat.old.slot) × (seat.new.view ≡ seat.old.view) }
-        ensures own { IfErr result (λ again. again.claim.name ≡ self.now.slot.name) }
+        ensures own { IfErr result (λ again. again.0.claim.name ≡ self.now.slot.name) }
+        ensures counts { IfErr result (λ again. CountsOne K.RIGHT again.1) }
     {
-        let (made, claim) = self.turn(grant.into_claim(), seat, seen, new);
-        if made {
+        let (found, claim) = self.turn(grant.into_claim(), seat, seen, new);
+        if found == seen {
             claim.done();
             return Ok(());
         }
-        Err(Grant::new(claim))
+        Err((Grant::new(claim), found))
     }
 
     /// Parks: gives up the right to where the value lies, and returns the parked right. The number still counts the holder.
@@ -188,43 +211,41 @@ impl<V> Word<Queues<Task>, V> {
         requires { grant.claim.name ≡ self.now.slot.name }
         ensures { result ≡ self.now.slot.name }
     {
-        let mut grant = grant;
-        let (mut seen, mut seat) = self.look();
+        let (mut seen, mut grant, mut seat) = self.look_holding(grant);
         for _ in rt.forever() {
-            if let Some(new) = K::word_parked(seen) {
-                match self.park_at(grant, &mut seat, seen, new) {
-                    Ok(share) => return share,
-                    Err(again) => grant = again,
+            match self.park_at(grant, &mut seat, seen) {
+                Ok(share) => return share,
+                Err((again, found)) => {
+                    grant = again;
+                    seen = found;
                 }
             }
-            seen = self.look_again(&mut seat);
         }
         unreachable!()
     }
 
-    // Parks, if the word is as it was seen. An error has the right where the word is another.
+    // Parks, if the word is as it was seen. An error has the right and the word, where that is another.
     fn park_at<'a, K: Right<Task>>(
         &self,
         grant: Grant<'a, K, V>,
         seat: &mut Seat,
         seen: u64,
-        new: u64,
-    ) -> Result<Share<K>, Grant<'a, K, V>>
+    ) -> Result<Share<K>, (Grant<'a, K, V>, u64)>
         requires own { grant.claim.name ≡ self.now.slot.name }
         requires seat { seat.old.slot ≡ self.now.slot.name }
-        requires step { Recounts K.RIGHT 0 seen new }
-        requires same { (readers_of (number_of new) ≡ readers_of (number_of seen))
-            × (writers_of (number_of new) ≡ writers_of (number_of seen)) }
+        requires counts { CountsOne K.RIGHT seen }
         ensures seat { (seat.new.slot ≡ seat.old.slot) × (seat.new.view ≡ seat.old.view) }
         ensures ok { IfOk result (λ share. share ≡ self.now.slot.name) }
-        ensures err { IfErr result (λ again. again.claim.name ≡ self.now.slot.name) }
+        ensures err { IfErr result (λ again. again.0.claim.name ≡ self.now.slot.name) }
+        ensures counts { IfErr result (λ again. CountsOne K.RIGHT again.1) }
     {
-        let (made, claim) = self.turn(grant.into_claim(), seat, seen, new);
-        if made {
+        let new = K::word_parked(seen);
+        let (found, claim) = self.turn(grant.into_claim(), seat, seen, new);
+        if found == seen {
             claim.done();
             return Ok(Share::new(seat));
         }
-        Err(Grant::new(claim))
+        Err((Grant::new(claim), found))
     }
 
     /// Takes the right of a parked holder again, and returns the right.
@@ -267,6 +288,29 @@ impl<V> Word<Queues<Task>, V> {
         ensures eases { EasesFrom (lock_rules {W = Task}) held.old.seat.view.number (number_of result) }
     {
         held.look(self)
+    }
+
+    // Looks as `look_alone` does, by a holder, which the word counts, and returns its right, too.
+    fn look_alone_holding<'a, K: Right<Task>>(
+        &self,
+        held: &mut Out<'_, V>,
+        grant: Grant<'a, K, V>,
+    ) -> (u64, Grant<'a, K, V>)
+        requires seat { IsOf self.now.slot.name held.old }
+        requires alone { HasState IsExclusive held.old }
+        requires own { grant.claim.name ≡ self.now.slot.name }
+        ensures seat { IsOf self.now.slot.name held.new }
+        ensures state { held.new.claim.state ≡ held.old.claim.state }
+        ensures word { (result.0 % 2 ≡ 1) × CountsOne K.RIGHT result.0 }
+        ensures number { held.new.seat.view.number ≡ Some (number_of result.0) }
+        ensures alone { HasState (λ n q. (n ≡ number_of result.0)
+            × IsExclusive n q) held.new }
+        ensures eases { EasesFrom (lock_rules {W = Task}) held.old.seat.view.number
+            (number_of result.0) }
+        ensures own { result.1.claim.name ≡ self.now.slot.name }
+    {
+        let (seen, claim) = held.look_as(self, grant.into_claim());
+        (seen, Grant::new(claim))
     }
 
     // Returns whether a newcomer may be admitted.
@@ -427,8 +471,8 @@ impl<V> Word<Queues<Task>, V> {
         let mut grant = grant;
         let (seen, mut seat) = self.look();
         if let Some(new) = number::reader_writes(seen) {
-            let (made, claim) = self.turn(grant.into_claim(), &mut seat, seen, new);
-            if made {
+            let (found, claim) = self.turn(grant.into_claim(), &mut seat, seen, new);
+            if found == seen {
                 return Ok(Grant::new(claim));
             }
             grant = Grant::new(claim);
@@ -492,8 +536,8 @@ impl<V> Word<Queues<Task>, V> {
         let mut grant = grant;
         let (seen, mut seat) = self.look();
         if let Some(new) = number::writer_reads(seen) {
-            let (made, claim) = self.turn(grant.into_claim(), &mut seat, seen, new);
-            if made {
+            let (found, claim) = self.turn(grant.into_claim(), &mut seat, seen, new);
+            if found == seen {
                 return Grant::new(claim);
             }
             grant = Grant::new(claim);
@@ -524,12 +568,9 @@ impl<V> Word<Queues<Task>, V> {
     {
         let mut grant = grant;
         for _ in rt.forever() {
-            let seen = self.look_alone(held);
-            if seen % READER < WRITER {
-                continue;
-            }
+            let (seen, writes) = self.look_alone_holding(held, grant);
             let new = seen - WRITER + READER;
-            let (made, claim) = held.turn(self, grant.into_claim(), seen, new);
+            let (made, claim) = held.turn(self, writes.into_claim(), seen, new);
             if made {
                 return Grant::new(claim);
             }

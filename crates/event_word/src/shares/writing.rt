@@ -52,21 +52,15 @@ impl<W> Right<W> for Writing {
     }
 
     #[inline(always)]
-    fn word_out(word: u64) -> Option<Leaving> {
-        if word % READER < WRITER {
-            return None;
-        }
+    fn word_out(word: u64) -> Leaving {
         if word % 4 == CROWDED {
-            return Some(Leaving::Taking(word - WRITER - 1));
+            return Leaving::Taking(word - WRITER - 1);
         }
-        Some(Leaving::Going(word - WRITER))
+        Leaving::Going(word - WRITER)
     }
 
-    fn word_parked(word: u64) -> Option<u64> {
-        if word % READER < WRITER {
-            return None;
-        }
-        Some(word - WRITER + PARKED_WRITER)
+    fn word_parked(word: u64) -> u64 {
+        word - WRITER + PARKED_WRITER
     }
 
     fn word_unparked(word: u64) -> Option<u64> {

@@ -1,7 +1,7 @@
 //! The state of a lock, out with one thread.
 ghost use Rattle.std.specs.Prelude.{◌≡◌, ◌%◌, ⊤, Some};
 ghost use Rattle.event_word.specs.Held.{HasState, IsOf};
-ghost use Rattle.event_word.specs.Word.{EasesFrom, number_of};
+ghost use Rattle.event_word.specs.Word.{EasesFrom, Shows, number_of};
 
 use super::kept::Kept;
 use super::rule::{LookAgain, Place};
@@ -31,5 +31,27 @@ impl<S: Kept, V> Held<'_, S, V> {
         ensures eases { EasesFrom S.rules self.old.seat.view.number (number_of result) }
     {
         word.slot.load::<LookAgain<S>>(&mut self.seat)
+    }
+
+    // Looks as `look` does, by a thread that may have a right to the value, which the word shows.
+    #[inline(always)]
+    pub(crate) fn look_as<'b>(
+        &mut self,
+        word: &Word<S, V>,
+        claim: Claim<'b, Place<V>, S>,
+    ) -> (u64, Claim<'b, Place<V>, S>)
+        requires seat { IsOf word.now.slot.name self.old }
+        requires state { HasState (λ _ _. ⊤) self.old }
+        requires own { claim.name ≡ word.now.slot.name }
+        ensures seat { IsOf word.now.slot.name self.new }
+        ensures state { (self.new.claim.state ≡ self.old.claim.state)
+            × (self.new.seat.view.number ≡ Some (number_of result.0)) }
+        ensures word { (result.0 % 2 ≡ 1) × Shows S.rules claim.entry.right result.0 }
+        ensures eases { EasesFrom S.rules self.old.seat.view.number (number_of result.0) }
+        ensures own { (result.1.name ≡ word.now.slot.name)
+            × (result.1.right ≡ claim.entry.right) × (result.1.state ≡ claim.entry.state) }
+    {
+        let _word = word;
+        claim.load::<LookAgain<S>>(&mut self.seat)
     }
 }

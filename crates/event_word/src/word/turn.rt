@@ -2,7 +2,7 @@
 ghost use Rattle.std.specs.Prelude.{◌≡◌, ◌≢◌, ◌%◌, ⊤, None, Some, false, true, IfErr, IfOk};
 ghost use Rattle.event_slot.specs.Ruling.{Becomes, MayTurn};
 ghost use Rattle.event_word.specs.Held.{HasState, IsOf};
-ghost use Rattle.event_word.specs.Word.{Changes, Passes, Takes, counts_of, nothing, number_of};
+ghost use Rattle.event_word.specs.Word.{Changes, Passes, Shows, Takes, counts_of, nothing, number_of};
 
 use super::held::Held;
 use super::kept::Kept;
@@ -11,8 +11,7 @@ use super::{Seat, Word};
 use event_slot::Claim;
 
 impl<S: Kept, V> Word<S, V> {
-    // Changes the word, if it is as it was seen, and no waiter has to be notified. Returns whether the word was so, and the claim
-    // then.
+    // Changes the word, if it is as it was seen, and no waiter has to be notified. Returns the word as it was, and the claim then.
     #[inline(always)]
     #[tactic(auto, using(crate::proofs::WordKeeps::changes, crate::proofs::WordKeeps::due_changes))]
     pub(crate) fn turn<'a>(
@@ -21,22 +20,22 @@ impl<S: Kept, V> Word<S, V> {
         seat: &mut Seat,
         seen: u64,
         new: u64,
-    ) -> (bool, Claim<'a, Place<V>, S>)
+    ) -> (u64, Claim<'a, Place<V>, S>)
         requires own { (claim.name ≡ self.now.slot.name) × (claim.state ≡ None)
             × (seat.old.slot ≡ self.now.slot.name) }
         requires may { MayTurn claim.right (counts_of S.rules seen) (counts_of S.rules new) }
         requires changes { Changes S.rules seen new }
         ensures own { (result.1.name ≡ self.now.slot.name) × (result.1.state ≡ None) }
         ensures seat { (seat.new.slot ≡ seat.old.slot) × (seat.new.view ≡ seat.old.view) }
-        ensures made { result.0 ≡ true → Becomes claim.entry.right (counts_of S.rules seen)
+        ensures made { result.0 ≡ seen → Becomes claim.entry.right (counts_of S.rules seen)
             (counts_of S.rules new) result.1.right }
-        ensures stays { result.0 ≡ false → result.1.right ≡ claim.entry.right }
+        ensures stays { result.0 ≢ seen → result.1.right ≡ claim.entry.right }
+        ensures shows { Shows S.rules claim.entry.right result.0 }
     {
-        let (found, claim) = claim.exchange::<Change>(seat, seen, new);
-        (found == seen, claim)
+        claim.exchange::<Change>(seat, seen, new)
     }
 
-    // Changes the word as `turn` does, by a step that makes a seat, and returns the word as it was.
+    // Changes the word as `turn` does, by a step that makes a seat.
     #[inline(always)]
     #[tactic(auto, using(crate::proofs::WordKeeps::comes, crate::proofs::WordKeeps::due_changes))]
     pub(crate) fn turn_at<'a>(
@@ -53,12 +52,13 @@ impl<S: Kept, V> Word<S, V> {
         ensures made { result.0 ≡ expected → Becomes claim.entry.right (counts_of S.rules expected)
             (counts_of S.rules new) result.1.right }
         ensures stays { result.0 ≢ expected → result.1.right ≡ claim.entry.right }
+        ensures shows { Shows S.rules claim.entry.right result.0 }
     {
         claim.arrive::<Change>(expected, new)
     }
 
     // Changes the word as `turn` does, by a step that takes the state out where it is at home, and with which the right ends. An
-    // error has the claim and the seat where the word was another.
+    // error has the claim, the seat and the word where that was another.
     #[tactic(auto, using(crate::proofs::WordKeeps::takes_out, crate::proofs::WordKeeps::due_takes_none))]
     pub(crate) fn turn_out<'a>(
         &self,
@@ -66,7 +66,7 @@ impl<S: Kept, V> Word<S, V> {
         seat: Seat,
         seen: u64,
         new: u64,
-    ) -> Result<Held<'a, S, V>, (Claim<'a, Place<V>, S>, Seat)>
+    ) -> Result<Held<'a, S, V>, (Claim<'a, Place<V>, S>, Seat, u64)>
         requires own { (claim.name ≡ self.now.slot.name) × (claim.state ≡ None) }
         requires seat { (seat.slot ≡ self.now.slot.name) × (seat.view ≡ nothing) }
         requires home { seen % 2 ≡ 0 }
@@ -75,14 +75,15 @@ impl<S: Kept, V> Word<S, V> {
             × HasState (λ n q. (n ≡ number_of new) × S.rules.stands (number_of seen) q) held) }
         ensures err { IfErr result (λ again. (again.0.name ≡ self.now.slot.name)
             × (again.0.right ≡ claim.entry.right) × (again.0.state ≡ None)
-            × (again.1.slot ≡ seat.slot) × (again.1.view ≡ seat.view)) }
+            × (again.1.slot ≡ seat.slot) × (again.1.view ≡ seat.view)
+            × Shows S.rules claim.entry.right again.2) }
     {
         let mut seat = seat;
         let (found, claim) = claim.exchange::<Take>(&mut seat, seen, new);
         if found == seen {
             return Ok(Held { claim, seat });
         }
-        Err((claim, seat))
+        Err((claim, seat, found))
     }
 }
 

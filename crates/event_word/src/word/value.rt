@@ -2,7 +2,7 @@
 ghost use Rattle.std.specs.Prelude.{◌≡◌, ◌%◌, ⊤, true, None, Some, IfErr, IfOk, IfSome, MatchOption};
 ghost use Rattle.event_word.specs.Free.{NoneFor, ServesTheStarving, ServesWith, unshut_of};
 ghost use Rattle.event_word.specs.Held.{HasState, IsOf};
-ghost use Rattle.event_word.specs.Word.{Changes, Passes, Takes, count, nothing, number_of};
+ghost use Rattle.event_word.specs.Word.{Changes, Passes, Shows, Takes, count, nothing, number_of};
 
 use super::held::Held;
 use super::kept::Kept;
@@ -37,14 +37,6 @@ impl<V> Lodging<V> {
 /// The number while the value is parked.
 const PARKED: u64 = CLOSED;
 
-/// Returns whether a thread has the right to the value by this word.
-#[inline(always)]
-fn is_taken(seen: u64) -> bool
-    ensures { result ≡ true → unshut_of (number_of seen) ≡ 0 }
-{
-    seen / ONE % SHUT == 0
-}
-
 impl<S: Kept, V> Word<S, V> {
     // Changes the number where no waiter has to be notified, and takes the right to the value, if the word is as it was seen.
     #[inline(always)]
@@ -54,16 +46,16 @@ impl<S: Kept, V> Word<S, V> {
         ensures seat { (seat.new.slot ≡ seat.old.slot) × (seat.new.view ≡ seat.old.view) }
         ensures lends { IfSome result (λ lent. lent.name ≡ self.now.slot.name) }
     {
-        let (made, claim) = self.turn(self.slot.claim(), seat, seen, new);
-        if made {
+        let (found, claim) = self.turn(self.slot.claim(), seat, seen, new);
+        if found == seen {
             return Some(claim.write());
         }
         claim.done();
         None
     }
 
-    // Changes the number where no waiter has to be notified, and gives the right to the value back. An error has the right where
-    // the word is another.
+    // Changes the number where no waiter has to be notified, and gives the right to the value back. An error has the right and
+    // the word, where that is another.
     #[inline(always)]
     fn give_back<'a>(
         &self,
@@ -71,18 +63,19 @@ impl<S: Kept, V> Word<S, V> {
         seat: &mut Seat,
         seen: u64,
         new: u64,
-    ) -> Result<(), Lent<'a, S, V>>
+    ) -> Result<(), (Lent<'a, S, V>, u64)>
         requires own { (lent.name ≡ self.now.slot.name) × (seat.old.slot ≡ self.now.slot.name) }
         requires changes { Changes S.rules seen new × Passes S.rules 2 0 seen new }
         ensures seat { (seat.new.slot ≡ seat.old.slot) × (seat.new.view ≡ seat.old.view) }
-        ensures own { IfErr result (λ again. again.name ≡ self.now.slot.name) }
+        ensures own { IfErr result (λ again. again.0.name ≡ self.now.slot.name) }
+        ensures shows { IfErr result (λ again. Shows S.rules 2 again.1) }
     {
-        let (made, claim) = self.turn(lent.claim(), seat, seen, new);
-        if made {
+        let (found, claim) = self.turn(lent.claim(), seat, seen, new);
+        if found == seen {
             claim.done();
             return Ok(());
         }
-        Err(claim.write())
+        Err((claim.write(), found))
     }
 
     // Takes the right to the value by one compare-exchange, where no waiter has to be notified. An error is the word, where that
@@ -112,6 +105,7 @@ impl<S: Kept, V> Word<S, V> {
         requires changes { Changes S.rules expected new × Passes S.rules 2 0 expected new }
         ensures own { IfErr result (λ again. (again.0.name ≡ self.now.slot.name)
             × (again.2.slot ≡ self.now.slot.name) × (again.2.view ≡ nothing)) }
+        ensures shows { IfErr result (λ again. Shows S.rules 2 again.1) }
     {
         let (found, claim, seat) = self.turn_at(lent.claim(), expected, new);
         if found == expected {
@@ -122,14 +116,14 @@ impl<S: Kept, V> Word<S, V> {
     }
 
     // Takes the state out where it is at home, gives the right back, and changes the number by the same step. An error has the
-    // right and the seat where the word was another.
+    // right, the seat and the word where that was another.
     fn try_swap<'a>(
         &self,
         lent: Lent<'a, S, V>,
         seat: Seat,
         seen: u64,
         new: u64,
-    ) -> Result<Held<'a, S, V>, (Lent<'a, S, V>, Seat)>
+    ) -> Result<Held<'a, S, V>, (Lent<'a, S, V>, Seat, u64)>
         requires own { lent.name ≡ self.now.slot.name }
         requires seat { (seat.slot ≡ self.now.slot.name) × (seat.view ≡ nothing) }
         requires home { seen % 2 ≡ 0 }
@@ -138,10 +132,11 @@ impl<S: Kept, V> Word<S, V> {
             × HasState (λ n q. (n ≡ number_of new) × S.rules.stands (number_of seen) q) held) }
         ensures err { IfErr result (λ again. (again.0.name ≡ self.now.slot.name)
             × (again.1.slot ≡ seat.slot) × (again.1.view ≡ seat.view)) }
+        ensures shows { IfErr result (λ again. Shows S.rules 2 again.2) }
     {
         match self.turn_out(lent.claim(), seat, seen, new) {
             Ok(held) => Ok(held),
-            Err((claim, seat)) => Err((claim.write(), seat)),
+            Err((claim, seat, found)) => Err((claim.write(), seat, found)),
         }
     }
 }
@@ -226,32 +221,32 @@ impl<V> Word<Competing<OneValue>, Lodging<V>> {
     )
         requires own { lent.name ≡ self.now.slot.name }
         requires seat { (seat.slot ≡ self.now.slot.name) × (seat.view ≡ nothing) }
+        requires taken { unshut_of (number_of found) ≡ 0 }
     {
         let mut lent = lent;
         let (mut seen, mut seat) = (found, seat);
         for _ in rt.forever() {
-            if !is_taken(seen) {
-                seen = self.look_again(&mut seat);
-                continue;
-            }
             if seen % 4 == CROWDED {
                 match self.try_swap(lent, seat, seen, seen + ONE - 1) {
                     Ok(held) => {
                         self.put_back(rt, held);
                         return;
                     }
-                    Err((again, at)) => {
+                    Err((again, at, found)) => {
                         lent = again;
                         seat = at;
+                        seen = found;
                     }
                 }
             } else {
                 match self.give_back(lent, &mut seat, seen, seen + ONE) {
                     Ok(()) => return,
-                    Err(again) => lent = again,
+                    Err((again, found)) => {
+                        lent = again;
+                        seen = found;
+                    }
                 }
             }
-            seen = self.look_again(&mut seat);
         }
         unreachable!()
     }
@@ -292,16 +287,16 @@ impl<V> Word<Competing<OneValue>, Lodging<V>> {
         requires { lent.name ≡ self.now.slot.name }
         ensures { result ≡ self.now.slot.name }
     {
-        let mut lent = lent;
-        let (mut seen, mut seat) = self.look();
+        let (mut seen, claim, mut seat) = self.look_as(lent.claim());
+        let mut lent = claim.write();
         for _ in rt.forever() {
-            if is_taken(seen) {
-                match self.give_back(lent, &mut seat, seen, seen + PARKED * ONE) {
-                    Ok(()) => return Parked::new(&seat),
-                    Err(again) => lent = again,
+            match self.give_back(lent, &mut seat, seen, seen + PARKED * ONE) {
+                Ok(()) => return Parked::new(&seat),
+                Err((again, found)) => {
+                    lent = again;
+                    seen = found;
                 }
             }
-            seen = self.look_again(&mut seat);
         }
         unreachable!()
     }

@@ -4,7 +4,7 @@ use Rattle.event_word.proofs.WordKeeps.{changes, due_changes}
 use Rattle.event_word.proofs.shares.share.Share.park.Goals as goal
 
 pub exchange-found-requires-clause-keeps : goal.exchange-found-requires-clause-keeps
-exchange-found-requires-clause-keeps g c = (c.loop.invariant.4, changes (lock_rules {W = Task}) _ _ _ _ _ c.in-Some-word_parked.ensures.step.changes)
+exchange-found-requires-clause-keeps g c = (c.loop.invariant.4, changes (lock_rules {W = Task}) _ _ _ _ _ c.word_parked-new.ensures.step.changes)
 
 pub exchange-found-requires-clause-owes : goal.exchange-found-requires-clause-owes
-exchange-found-requires-clause-owes g c = due_changes (lock_rules {W = Task}) _ _ _ _ c.in-Some-word_parked.ensures.step.changes
+exchange-found-requires-clause-owes g c = due_changes (lock_rules {W = Task}) _ _ _ _ c.word_parked-new.ensures.step.changes

@@ -4,4 +4,4 @@ use Rattle.event_word.proofs.WordKeeps.{passed}
 use Rattle.event_word.proofs.shares.steps.Word+Queues+Task+V.admit.Goals as goal
 
 pub new-requires : goal.new-requires
-new-requires g c = (passed (lock_rules {W = Task}) 0 g.K.Right.RIGHT _ _ _ _ c.requires.step.passes c.claim.ensures.2 (c.turn-made.ensures.made c.if-made.true), c.turn-made.ensures.own.1)
+new-requires g c = (passed (lock_rules {W = Task}) 0 g.K.Right.RIGHT _ _ _ _ c.requires.step.passes c.claim.ensures.2 (c.turn-found.ensures.made c.if-found-seen.true), c.turn-found.ensures.own.1)

@@ -1,5 +1,9 @@
-use Rattle.std.proofs.Common.{rules, ◌∙◌, ◌≡◌, ◌+◌, ◌%◌, ◌-◌, ◌<◌, ◌≤◌, ℕ, Some, ap, arith}
-use Rattle.event_word.specs.Count.{IsCount, writers_of}
+use Rattle.std.proofs.Common.{rules, ◌∙◌, ◌≡◌, ◌+◌, ◌%◌, ◌-◌, ◌<◌, ◌≤◌, ◌*◌, ℕ, Bool, Some, refl, ap, ne_eqb, arith}
+use Rattle.std.specs.Prelude.{if◌then◌else◌}
+use mathlib.Core.Logic.{dite}
+use native.Mathlib.Decide.{ℕ_discrete}
+use Rattle.event_word.specs.Count.{IsCount, active_readers_of, counted, writers_of}
+use Rattle.event_word.specs.Queues.{CountsOne}
 use Rattle.event_word.specs.Word.{number_of}
 use Rattle.event_word.proofs.QueuesLemmas.{since}
 use Rattle.event_word.proofs.shares.steps.Word+Queues+Task+V.count_as_reader.Goals as goal
@@ -11,11 +15,14 @@ counts_on w fits high =
     let nobody = fits.alone some in
     omega (arith, high, nobody, fits.one)
 
-pub loop-preserved-then-seen-lt-WRITER : goal.loop-preserved-then-seen-lt-WRITER
-loop-preserved-then-seen-lt-WRITER g c = (search rules, search rules, search rules, search rules, since _ _ _ c.loop.invariant.4 (record { others = _; eases = c.look_alone-seen.ensures.eases; made = search rules }))
+-- the writer finds that the word counts it
+written : (w : ℕ) → CountsOne 2 w → 4 ≤ w % 8
+written w h = dite (ℕ_discrete (number_of w % 2) 1) (λ odd. omega (arith, odd)) (λ even.
+    let free : counted (number_of w) ≡ 1 + 4 * active_readers_of (number_of w) = ap (λ (b : Bool). if b then 3 else 1 + 4 * active_readers_of (number_of w)) (ne_eqb (number_of w % 2) 1 even) in
+    absurd (omega (arith, h.0.1 refl, free)))
 
 pub loop-preserved : goal.loop-preserved
-loop-preserved g c = (search rules, search rules, search rules, search rules, since _ _ _ c.loop.invariant.4 (record { others = _; eases = c.look_alone-seen.ensures.eases; made = search rules }))
+loop-preserved g c = (search rules, search rules, search rules, search rules, since _ _ _ c.loop.invariant.4 (record { others = _; eases = c.look_alone_holding-seen.ensures.eases; made = search rules }))
 
 pub returns-then-made-clause-counts : goal.returns-then-made-clause-counts
-returns-then-made-clause-counts g c = since _ _ _ c.loop.invariant.4 (record { others = _; eases = c.look_alone-seen.ensures.eases; made = (c.turn-made.ensures.made c.if-made.true).1 ∙ ap (λ (m : ℕ). Some m) (counts_on c.look_alone-seen.result c.look_alone-seen.ensures.word.1 c.if-seen-lt-WRITER.false) })
+returns-then-made-clause-counts g c = since _ _ _ c.loop.invariant.4 (record { others = _; eases = c.look_alone_holding-seen.ensures.eases; made = (c.turn-made.ensures.made c.if-made.true).1 ∙ ap (λ (m : ℕ). Some m) (counts_on c.look_alone_holding-seen.result.0 c.look_alone_holding-seen.ensures.word.1.1 (written c.look_alone_holding-seen.result.0 c.look_alone_holding-seen.ensures.word.1)) })

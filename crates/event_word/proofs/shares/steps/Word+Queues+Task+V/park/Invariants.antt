@@ -1,7 +1,6 @@
 use Rattle.std.specs.Prelude.{◌≡◌}
-use Rattle.event_word.specs.Count.{IsCount}
-use Rattle.event_word.specs.Word.{number_of}
+use Rattle.event_word.specs.Queues.{CountsOne}
 use Rattle.event_word.proofs.shares.steps.Word+Queues+Task+V.park.Given as goal
 
 abbrev pub invariant-loop : goal.invariant-loop
-invariant-loop g l = (l.seat.slot ≡ l.initial.seat.slot) × IsCount (number_of l.seen) × (l.grant.claim.name ≡ l.initial.grant.claim.name)
+invariant-loop g l = (l.seat.slot ≡ l.initial.seat.slot) × CountsOne g.K.Right.RIGHT l.seen × (l.grant.claim.name ≡ l.initial.grant.claim.name)
