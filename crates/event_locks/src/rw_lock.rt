@@ -5,6 +5,7 @@ mod guard;
 mod requests;
 mod waits;
 
+use self::guard::HeldArc;
 pub use self::guard::{RwLockReadGuard, RwLockReadGuardArc, RwLockWriteGuard, RwLockWriteGuardArc};
 use self::requests::Place;
 pub use self::waits::{Read, ReadArc, Write, WriteArc};
@@ -89,8 +90,13 @@ impl<T> RwLock<T> {
         T: Drop,
     {
         let lock = Arc::try_clone(this)?;
-        let share = lock.try_share::<Reading, R>(&rt);
-        Ok(share.map(|share| RwLockReadGuardArc::new(Shared { lock, rt }, share)))
+        match HeldArc::come(Shared { lock, rt }) {
+            Ok(held) => Ok(Some(RwLockReadGuardArc::of(held))),
+            Err(hold) => {
+                let share = hold.lock.try_share::<Reading, R>(&hold.rt);
+                Ok(share.map(|share| RwLockReadGuardArc::new(hold, share)))
+            }
+        }
     }
 
     /// Takes the value to write it, like [`try_write`](RwLock::try_write), by a guard that may go to another thread.
@@ -106,8 +112,13 @@ impl<T> RwLock<T> {
         T: Drop,
     {
         let lock = Arc::try_clone(this)?;
-        let share = lock.try_share::<Writing, R>(&rt);
-        Ok(share.map(|share| RwLockWriteGuardArc::new(Shared { lock, rt }, share)))
+        match HeldArc::come(Shared { lock, rt }) {
+            Ok(held) => Ok(Some(RwLockWriteGuardArc::of(held))),
+            Err(hold) => {
+                let share = hold.lock.try_share::<Writing, R>(&hold.rt);
+                Ok(share.map(|share| RwLockWriteGuardArc::new(hold, share)))
+            }
+        }
     }
 
     /// Asks for the value to read it, once the returned [`Read`] is waited on or polled. Until then nothing happens.

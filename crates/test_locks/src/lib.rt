@@ -13,6 +13,7 @@
 //! | `closes` | that a semaphore which closes ends each kind of wait |
 //! | `crowds` | more that wait than a thread wakes before others may have the queues |
 //! | `races` | one lets go while another one goes into the queue |
+//! | `sizes` | what each lock takes in memory |
 //! | `stress` | threads and tasks at the locks, which give up at times |
 #![tactic(auto)]
 
@@ -26,6 +27,8 @@ mod crowds;
 mod limits;
 #[cfg(test)]
 mod races;
+#[cfg(test)]
+mod sizes;
 #[cfg(test)]
 mod stress;
 #[cfg(test)]

@@ -1,9 +1,8 @@
 //! The value of a read-write lock, with those that have it.
-ghost use Rattle.std.specs.Prelude.{◌≡◌, ◌<◌, IsSome, MatchResult, None, Option, Some};
+ghost use Rattle.std.specs.Prelude.{◌≡◌, ◌<◌, IfErr, IsSome, MatchResult, None, Option, Some};
 ghost use Rattle.std.specs.Arc.{arc_value};
-ghost use Rattle.event_word.specs.Count.{IsCount};
 ghost use Rattle.event_word.specs.Held.{placed, placed_in};
-ghost use Rattle.event_word.specs.Word.{number_of};
+ghost use Rattle.event_word.specs.Queues.{CountsOne};
 
 use super::{Hidden, RwLock};
 use crate::lending::Lending;
@@ -32,7 +31,7 @@ impl<T> Inside<Place<Hidden<T>>, Queues<Task>> for RwLock<T> {
 }
 
 // The right of one that shares the lock. A ghost field of the guard's own would stand in the way of its `deref_mut`.
-struct HeldArc<T, R, K: Right<Task>> {
+pub(super) struct HeldArc<T, R, K: Right<Task>> {
     owned: OwnedRight<RwLock<T>, Hidden<T>>,
     seat: Seat,
     word: u64,
@@ -42,7 +41,7 @@ struct HeldArc<T, R, K: Right<Task>> {
     ghost lends: { IsSome owned.value },
     ghost own: { owned.name ≡ owned.of.word.slot.name },
     ghost same: { seat.slot ≡ owned.name },
-    ghost fits: { IsCount (number_of word) },
+    ghost counts: { CountsOne K.RIGHT word },
 }
 
 impl<T, R: Wait, K: Right<Task>> HeldArc<T, R, K> {
@@ -58,6 +57,48 @@ impl<T, R: Wait, K: Right<Task>> HeldArc<T, R, K> {
             word,
             rt,
             of: PhantomData,
+        }
+    }
+
+    // Takes the right by one compare-exchange, if a newcomer is admitted without the queues. An error has the lock.
+    #[inline(always)]
+    pub(super) fn come(hold: Shared<RwLock<T>, R>) -> Result<Self, Shared<RwLock<T>, R>>
+        requires right { 0 < K.RIGHT }
+        ensures { IfErr result (λ again. arc_value again.lock ≡ arc_value hold.lock) }
+    {
+        let Shared { lock, rt } = hold;
+        match Share::<K>::come(&rt, lock) {
+            Ok((owned, seat, word)) => Ok(HeldArc {
+                owned,
+                seat,
+                word,
+                rt,
+                of: PhantomData,
+            }),
+            Err(lock) => Err(Shared { lock, rt }),
+        }
+    }
+
+    // Gives the right up. It is parked for a moment only where a waiter may have to be let in.
+    #[inline(always)]
+    fn end(self)
+    where
+        T: Drop,
+        R: Drop,
+    {
+        let HeldArc {
+            owned,
+            seat,
+            word,
+            rt,
+            of: _,
+        } = self;
+        match Share::<K>::go(&rt, owned, seat, word) {
+            Ok(lock) => drop(lock),
+            Err((owned, seat, word)) => {
+                let (lock, share) = Share::<K>::park(&rt, owned, seat, word);
+                lock.ended(&rt, share);
+            }
         }
     }
 
@@ -83,6 +124,34 @@ impl<T, R> HeldArc<T, R, Reading> {
     {
         &self.owned.get().value.value
     }
+
+    // Upgrades by one compare-exchange, if the word shows no waiter and no other reader. An error has the right to read.
+    #[inline(always)]
+    fn upgrade(self) -> Result<HeldArc<T, R, Writing>, Self> {
+        let HeldArc {
+            owned,
+            seat,
+            word,
+            rt,
+            of: _,
+        } = self;
+        match Share::<Reading>::upgrade(owned, seat, word) {
+            Ok((owned, seat, word)) => Ok(HeldArc {
+                owned,
+                seat,
+                word,
+                rt,
+                of: PhantomData,
+            }),
+            Err((owned, seat, word)) => Err(HeldArc {
+                owned,
+                seat,
+                word,
+                rt,
+                of: PhantomData,
+            }),
+        }
+    }
 }
 
 impl<T, R> HeldArc<T, R, Writing> {
@@ -98,6 +167,34 @@ impl<T, R> HeldArc<T, R, Writing> {
         ensures { result.now ≡ placed_in self.old.owned.value self.old.lends }
     {
         &mut self.owned.get_mut().value.value
+    }
+
+    // Downgrades by one compare-exchange, if the word shows no waiter. An error has the right to write.
+    #[inline(always)]
+    fn downgrade(self) -> Result<HeldArc<T, R, Reading>, Self> {
+        let HeldArc {
+            owned,
+            seat,
+            word,
+            rt,
+            of: _,
+        } = self;
+        match Share::<Writing>::downgrade(owned, seat, word) {
+            Ok((owned, seat, word)) => Ok(HeldArc {
+                owned,
+                seat,
+                word,
+                rt,
+                of: PhantomData,
+            }),
+            Err((owned, seat, word)) => Err(HeldArc {
+                owned,
+                seat,
+                word,
+                rt,
+                of: PhantomData,
+            }),
+        }
     }
 }
 
@@ -207,6 +304,11 @@ impl<'a, T, R: Wait + Clock> RwLockWriteGuard<'a, T, R> {
 }
 
 impl<T: Drop, R: Wait + Clock + Drop> RwLockReadGuardArc<T, R> {
+    #[inline(always)]
+    pub(super) fn of(held: HeldArc<T, R, Reading>) -> Self {
+        RwLockReadGuardArc { held }
+    }
+
     pub(crate) fn new(hold: Shared<RwLock<T>, R>, share: Share<Reading>) -> Self
         requires { share ≡ (arc_value hold.lock).word.slot.name }
     {
@@ -219,7 +321,10 @@ impl<T: Drop, R: Wait + Clock + Drop> RwLockReadGuardArc<T, R> {
     /// the reader again, as an `Err`, else.
     pub fn try_upgrade(self) -> Result<RwLockWriteGuardArc<T, R>, RwLockReadGuardArc<T, R>> {
         let RwLockReadGuardArc { held } = self;
-        let (hold, share) = held.park();
+        let (hold, share) = match held.upgrade() {
+            Ok(held) => return Ok(RwLockWriteGuardArc { held }),
+            Err(held) => held.park(),
+        };
         match hold.lock.upgraded(&hold.rt, share) {
             Ok(share) => Ok(RwLockWriteGuardArc::new(hold, share)),
             Err(share) => Err(RwLockReadGuardArc::new(hold, share)),
@@ -228,6 +333,11 @@ impl<T: Drop, R: Wait + Clock + Drop> RwLockReadGuardArc<T, R> {
 }
 
 impl<T: Drop, R: Wait + Clock + Drop> RwLockWriteGuardArc<T, R> {
+    #[inline(always)]
+    pub(super) fn of(held: HeldArc<T, R, Writing>) -> Self {
+        RwLockWriteGuardArc { held }
+    }
+
     pub(crate) fn new(hold: Shared<RwLock<T>, R>, share: Share<Writing>) -> Self
         requires { share ≡ (arc_value hold.lock).word.slot.name }
     {
@@ -240,7 +350,10 @@ impl<T: Drop, R: Wait + Clock + Drop> RwLockWriteGuardArc<T, R> {
     /// readers that wait.
     pub fn downgrade(self) -> RwLockReadGuardArc<T, R> {
         let RwLockWriteGuardArc { held } = self;
-        let (hold, share) = held.park();
+        let (hold, share) = match held.downgrade() {
+            Ok(held) => return RwLockReadGuardArc { held },
+            Err(held) => held.park(),
+        };
         let share = hold.lock.downgraded(&hold.rt, share);
         RwLockReadGuardArc::new(hold, share)
     }
@@ -366,16 +479,14 @@ impl<T, R: Wait + Clock> Drop for RwLockWriteGuard<'_, T, R> {
 impl<T: Drop, R: Wait + Clock + Drop> Drop for RwLockReadGuardArc<T, R> {
     fn drop(self) {
         let RwLockReadGuardArc { held } = self;
-        let (hold, share) = held.park();
-        hold.lock.ended(&hold.rt, share);
+        held.end();
     }
 }
 
 impl<T: Drop, R: Wait + Clock + Drop> Drop for RwLockWriteGuardArc<T, R> {
     fn drop(self) {
         let RwLockWriteGuardArc { held } = self;
-        let (hold, share) = held.park();
-        hold.lock.ended(&hold.rt, share);
+        held.end();
     }
 }
 

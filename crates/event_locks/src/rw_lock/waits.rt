@@ -1,13 +1,16 @@
 //! Waits for the value of a read-write lock.
+ghost use Rattle.std.specs.Prelude.{◌<◌};
 ghost use Rattle.event_locks.specs.Awaited.{read_arc_awaits, read_awaits, write_arc_awaits, write_awaits};
 
 use super::RwLock;
-use super::guard::{RwLockReadGuard, RwLockReadGuardArc, RwLockWriteGuard, RwLockWriteGuardArc};
+use super::guard::{
+    HeldArc, RwLockReadGuard, RwLockReadGuardArc, RwLockWriteGuard, RwLockWriteGuardArc,
+};
 use super::requests::Place;
 use crate::lending::{Lender, Lending};
 use crate::polled::guarded;
-use event_wait::{LockError, Obtaining, Shared};
-use event_word::{Reading, Writing};
+use event_wait::{LockError, Obtaining, Shared, Task};
+use event_word::{Reading, Right, Writing};
 use futures::Future;
 use futures::task::{Context, Poll};
 use std::sync::Wait;
@@ -95,8 +98,13 @@ impl<T: Drop, R: Wait + Clock + Drop> ReadArc<T, R> {
 
     /// Blocks the thread until it may read, like [`Read::wait`]. Returns a guard that may go to another thread.
     pub fn wait(self) -> Result<RwLockReadGuardArc<T, R>, LockError> {
-        let (hold, share) = self.obtaining.wait()?;
-        Ok(RwLockReadGuardArc::new(hold, share))
+        match come_first(self.obtaining) {
+            Ok(held) => Ok(RwLockReadGuardArc::of(held)),
+            Err(rest) => {
+                let (hold, share) = rest.wait_longer()?;
+                Ok(RwLockReadGuardArc::new(hold, share))
+            }
+        }
     }
 
     /// Blocks the thread until it may read, at most for `timeout`, like [`Read::wait_timeout`]. Returns a guard that may go to
@@ -105,8 +113,13 @@ impl<T: Drop, R: Wait + Clock + Drop> ReadArc<T, R> {
         self,
         timeout: Duration,
     ) -> Result<Option<RwLockReadGuardArc<T, R>>, LockError> {
-        let got = self.obtaining.wait_timeout(timeout)?;
-        Ok(got.map(|(hold, share)| RwLockReadGuardArc::new(hold, share)))
+        match come_first(self.obtaining) {
+            Ok(held) => Ok(Some(RwLockReadGuardArc::of(held))),
+            Err(rest) => {
+                let got = rest.wait_timeout(timeout)?;
+                Ok(got.map(|(hold, share)| RwLockReadGuardArc::new(hold, share)))
+            }
+        }
     }
 
     /// Blocks the thread until it may read, at most until `deadline`, like [`Read::wait_deadline`]. Returns a guard that may go
@@ -115,8 +128,13 @@ impl<T: Drop, R: Wait + Clock + Drop> ReadArc<T, R> {
         self,
         deadline: Instant,
     ) -> Result<Option<RwLockReadGuardArc<T, R>>, LockError> {
-        let got = self.obtaining.wait_deadline(deadline)?;
-        Ok(got.map(|(hold, share)| RwLockReadGuardArc::new(hold, share)))
+        match come_first(self.obtaining) {
+            Ok(held) => Ok(Some(RwLockReadGuardArc::of(held))),
+            Err(rest) => {
+                let got = rest.wait_deadline(deadline)?;
+                Ok(got.map(|(hold, share)| RwLockReadGuardArc::new(hold, share)))
+            }
+        }
     }
 }
 
@@ -136,6 +154,9 @@ impl<T: Drop, R: Wait + Clock + Drop> Future for ReadArc<T, R> {
     ghost needs = { read_arc_awaits };
 
     fn poll(&mut self, cx: &mut Context<'_>) -> Poll<Result<RwLockReadGuardArc<T, R>, LockError>> {
+        if let Some(held) = come_at_poll(&mut self.obtaining) {
+            return Poll::Ready(Ok(RwLockReadGuardArc::of(held)));
+        }
         guarded(self.obtaining.poll(cx), RwLockReadGuardArc::new)
     }
 }
@@ -222,8 +243,13 @@ impl<T: Drop, R: Wait + Clock + Drop> WriteArc<T, R> {
 
     /// Blocks the thread until it may write, like [`Write::wait`]. Returns a guard that may go to another thread.
     pub fn wait(self) -> Result<RwLockWriteGuardArc<T, R>, LockError> {
-        let (hold, share) = self.obtaining.wait()?;
-        Ok(RwLockWriteGuardArc::new(hold, share))
+        match come_first(self.obtaining) {
+            Ok(held) => Ok(RwLockWriteGuardArc::of(held)),
+            Err(rest) => {
+                let (hold, share) = rest.wait_longer()?;
+                Ok(RwLockWriteGuardArc::new(hold, share))
+            }
+        }
     }
 
     /// Blocks the thread until it may write, at most for `timeout`, like [`Write::wait_timeout`]. Returns a guard that may go
@@ -232,8 +258,13 @@ impl<T: Drop, R: Wait + Clock + Drop> WriteArc<T, R> {
         self,
         timeout: Duration,
     ) -> Result<Option<RwLockWriteGuardArc<T, R>>, LockError> {
-        let got = self.obtaining.wait_timeout(timeout)?;
-        Ok(got.map(|(hold, share)| RwLockWriteGuardArc::new(hold, share)))
+        match come_first(self.obtaining) {
+            Ok(held) => Ok(Some(RwLockWriteGuardArc::of(held))),
+            Err(rest) => {
+                let got = rest.wait_timeout(timeout)?;
+                Ok(got.map(|(hold, share)| RwLockWriteGuardArc::new(hold, share)))
+            }
+        }
     }
 
     /// Blocks the thread until it may write, at most until `deadline`, like [`Write::wait_deadline`]. Returns a guard that may
@@ -242,8 +273,13 @@ impl<T: Drop, R: Wait + Clock + Drop> WriteArc<T, R> {
         self,
         deadline: Instant,
     ) -> Result<Option<RwLockWriteGuardArc<T, R>>, LockError> {
-        let got = self.obtaining.wait_deadline(deadline)?;
-        Ok(got.map(|(hold, share)| RwLockWriteGuardArc::new(hold, share)))
+        match come_first(self.obtaining) {
+            Ok(held) => Ok(Some(RwLockWriteGuardArc::of(held))),
+            Err(rest) => {
+                let got = rest.wait_deadline(deadline)?;
+                Ok(got.map(|(hold, share)| RwLockWriteGuardArc::new(hold, share)))
+            }
+        }
     }
 }
 
@@ -266,6 +302,45 @@ impl<T: Drop, R: Wait + Clock + Drop> Future for WriteArc<T, R> {
     ghost needs = { write_arc_awaits };
 
     fn poll(&mut self, cx: &mut Context<'_>) -> Poll<Result<RwLockWriteGuardArc<T, R>, LockError>> {
+        if let Some(held) = come_at_poll(&mut self.obtaining) {
+            return Poll::Ready(Ok(RwLockWriteGuardArc::of(held)));
+        }
         guarded(self.obtaining.poll(cx), RwLockWriteGuardArc::new)
+    }
+}
+
+// A wait for a right by a guard that shares the lock.
+type SharedWait<T, R, K> = Obtaining<RwLock<T>, Place<K>, Shared<RwLock<T>, R>>;
+
+// Takes the right that is waited for by one step, if the wait is in no queue and a newcomer is admitted. An error is the wait.
+#[inline(always)]
+fn come_first<T: Drop, R: Wait + Clock + Drop, K: Right<Task>>(
+    wait: SharedWait<T, R, K>,
+) -> Result<HeldArc<T, R, K>, SharedWait<T, R, K>>
+    requires { 0 < K.RIGHT }
+{
+    match wait.begin() {
+        Ok((hold, alloc)) => match HeldArc::come(hold) {
+            Ok(held) => Ok(held),
+            Err(hold) => Err(Obtaining::new(hold, alloc, Place::default())),
+        },
+        Err(rest) => Err(rest),
+    }
+}
+
+// Takes the right as `come_first` does, for a poll. A wait that gets nothing stays as it was.
+#[inline(always)]
+fn come_at_poll<T: Drop, R: Wait + Clock + Drop, K: Right<Task>>(
+    wait: &mut SharedWait<T, R, K>,
+) -> Option<HeldArc<T, R, K>>
+    requires { 0 < K.RIGHT }
+{
+    let hold = wait.take_hold()?;
+    match HeldArc::come(hold) {
+        Ok(held) => Some(held),
+        Err(hold) => {
+            wait.hold = Some(hold);
+            None
+        }
     }
 }

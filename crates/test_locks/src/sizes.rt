@@ -1,0 +1,13 @@
+//! What each lock takes in memory, in bytes, as the page of `event_locks` says. Each line is evaluated when this crate is checked.
+use event_locks::{Barrier, Mutex, OnceCell, RwLock, Semaphore};
+use std::mem::size_of;
+
+const _: () = prove!(size_of::<Mutex<u64>>() == 152);
+
+const _: () = prove!(size_of::<RwLock<u64>>() == 200);
+
+const _: () = prove!(size_of::<Semaphore>() == 128);
+
+const _: () = prove!(size_of::<Barrier>() == 112);
+
+const _: () = prove!(size_of::<OnceCell<u64>>() == 232);
