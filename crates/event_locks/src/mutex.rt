@@ -39,7 +39,15 @@ use std::time::Clock;
 /// The value lies in the mutex while nobody has it, and else in the guard of its owner. Each lock therefore moves the value out
 /// and in again: box a large value.
 ///
+/// Threads share a mutex by an `Arc`. Here each thread that pays into a balance has a share of its own, and at the end one
+/// thread reads the balance:
+///
 /// ```rust
+/// let balance = Arc::new(alloc, Mutex::new(alloc, 0u64))?;
+///
+/// let balance = Arc::try_clone(&balance)?;
+/// threads.push(thread::spawn(&rt, move || pay(&rt, alloc, &balance, amount))?)?;
+///
 /// let balance = balance.lock(&rt, alloc).wait()?;
 /// Ok(*balance)
 /// ```
@@ -61,6 +69,10 @@ pub(crate) struct Loan<T> {
 impl<T: Drop> Mutex<T> {
     /// Makes a mutex round `value`, which nobody has. This takes no memory; the queue takes some from `alloc` once somebody
     /// waits.
+    ///
+    /// ```rust
+    /// let balance = Mutex::new(alloc, 10u64);
+    /// ```
     pub fn new(alloc: Global, value: T) -> Self {
         let line = Competing::new(alloc);
         Mutex {
@@ -93,6 +105,16 @@ impl<T: Drop> Mutex<T> {
     /// Takes the value, if nobody has it and newcomers are not shut out. Returns `None` else.
     ///
     /// Newcomers are shut out while a waiter starves. The call takes no memory and never blocks.
+    ///
+    /// While the guard in `taken` is kept, another wait for the value ends at its limit without it, so `in_time` is `false`:
+    ///
+    /// ```rust
+    /// let taken = balance.try_lock(rt);
+    ///
+    /// let limit = Duration::from_millis(20);
+    /// let in_time = balance.lock(rt, alloc).wait_timeout(limit)?.is_some();
+    /// drop(taken);
+    /// ```
     #[must_use = "a guard that is dropped at once gives back what it holds"]
     #[inline(always)]
     pub fn try_lock<'a, R: Wait + Clock>(&'a self, rt: &'a R) -> Option<MutexGuard<'a, T, R>> {
@@ -119,6 +141,14 @@ impl<T: Drop> Mutex<T> {
     ///
     /// A thread blocks by `lock(rt, alloc).wait()` or with a time limit; a task awaits the `Lock`. `alloc` gives the memory for
     /// a place in the queue, if the caller has to wait.
+    ///
+    /// A task awaits the value. The first `?` propagates an error of the executor, the second an error of the wait:
+    ///
+    /// ```rust
+    /// let mut balance = block_on(rt, balance.lock(rt, alloc))??;
+    /// *balance = balance.saturating_add(amount);
+    /// Ok(*balance)
+    /// ```
     #[inline(always)]
     pub fn lock<'a, R: Wait + Clock>(&'a self, rt: &'a R, alloc: Global) -> Lock<'a, T, R> {
         Lock::new(Obtaining::new(Lending::new(self, rt), alloc, Taker::default()))

@@ -24,6 +24,16 @@ use std::time::Clock;
 /// A reader or a writer that enters or leaves while nobody waits makes one atomic step. Neither kind is passed over: while a
 /// writer waits no reader enters or becomes a writer, and a writer that leaves or becomes a reader lets in all readers that
 /// wait then; after these readers the next writer is let in.
+///
+/// A task doubles the value, and then reads it. The first `?` of each pair propagates an error of the executor, the second an
+/// error of the wait:
+///
+/// ```rust
+/// let mut writer = block_on(rt, value.write(rt, alloc))??;
+/// *writer = writer.saturating_mul(2);
+/// drop(writer);
+/// Ok(*block_on(rt, value.read(rt, alloc))??)
+/// ```
 #[derive(Drop)]
 pub struct RwLock<T> {
     word: Word<Queues<Task>, Hidden<T>>,
@@ -45,6 +55,11 @@ impl<T> Model for Hidden<T> {
 impl<T> RwLock<T> {
     /// Makes a lock round `value`, which nobody has. This takes no memory; the queues take some from `alloc` once somebody
     /// waits.
+    ///
+    /// ```rust
+    /// let cache = RwLock::new(alloc, Squares::new(alloc));
+    /// let first = square(rt, alloc, &cache, 7)?;
+    /// ```
     pub fn new(alloc: Global, value: T) -> Self {
         RwLock {
             word: Word::new(0, Queues::new(alloc), Hidden { value }),
@@ -142,6 +157,18 @@ impl<T> RwLock<T> {
     ///
     /// A thread blocks by `write(rt, alloc).wait()` or with a time limit; a task awaits the `Write`. `alloc` gives the memory
     /// for a place in the queue, if the caller has to wait.
+    ///
+    /// A caller that found nothing as a reader looks again as a writer, because another writer may have had the value in
+    /// between:
+    ///
+    /// ```rust
+    /// let mut writer = cache.write(rt, alloc).wait()?;
+    /// // Another may have been here since.
+    /// if let Some(square) = writer.get(number) {
+    ///     return Ok(square);
+    /// }
+    /// Ok(writer.add(number)?)
+    /// ```
     #[inline(always)]
     pub fn write<'a, R: Wait + Clock>(&'a self, rt: &'a R, alloc: Global) -> Write<'a, T, R> {
         Write::new(Obtaining::new(Lending::new(self, rt), alloc, Place::default()))
@@ -221,6 +248,12 @@ impl<T> RwLock<T> {
     }
 
     /// Ends the lock and returns its value.
+    ///
+    /// ```rust
+    /// let cache = RwLock::new(alloc, Squares::new(alloc));
+    ///
+    /// cache.into_inner().len()
+    /// ```
     pub fn into_inner(self) -> T {
         let RwLock { word, source: _ } = self;
         let Hidden { value } = word.into_inner();

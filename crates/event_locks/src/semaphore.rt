@@ -42,8 +42,13 @@ use std::time::Clock;
 /// which newcomers are shut out keeps them out as long as it is kept and neither polled, waited on nor dropped, and for good if
 /// it is forgotten.
 ///
+/// [`acquire`](Semaphore::acquire) shows what each job does. Here two jobs at most run at once, because the semaphore has two
+/// permits:
+///
 /// ```rust
-/// let permit = Semaphore::acquire_arc(permits, rt, alloc)?.wait()?;
+/// let permits = Semaphore::new(rt.alloc(), 2);
+/// let squares = square_each(rt, rt.alloc(), &permits, &[1, 2, 3])?;
+/// println!(rt; "jobs: {squares:?}, {} free", permits.available())?;
 /// ```
 #[derive(Drop)]
 pub struct Semaphore {
@@ -59,6 +64,10 @@ impl Semaphore {
     /// that many.
     ///
     /// This takes no memory; the queue takes some from `alloc` once somebody waits.
+    ///
+    /// ```rust
+    /// let permits = Arc::new(alloc, Semaphore::new(alloc, 2))?;
+    /// ```
     pub fn new(alloc: Global, permits: usize) -> Self {
         let line = Competing::new(alloc);
         Semaphore {
@@ -71,6 +80,15 @@ impl Semaphore {
     ///
     /// At a closed semaphore the permits that were given back are counted, though nobody gets them. The call takes no lock and
     /// never blocks.
+    ///
+    /// Here two guards are kept while the free permits are counted:
+    ///
+    /// ```rust
+    /// let held = (first?, second?);
+    /// let free = permits.available();
+    /// drop(held);
+    /// Ok(free)
+    /// ```
     pub fn available(&self) -> usize {
         self.word.free() as usize
     }
@@ -178,6 +196,13 @@ impl Semaphore {
     ///
     /// A thread blocks by `acquire(rt, alloc).wait()` or with a time limit; a task awaits the `Acquire`. `alloc` gives the
     /// memory for a place in the queue, if the caller has to wait.
+    ///
+    /// A job keeps its permit until it returns. A job that could not wait, or that finds the semaphore closed, returns `None`:
+    ///
+    /// ```rust
+    /// let _permit = permits.acquire(rt, alloc).wait().ok()?;
+    /// Some(u64::from(*number) * u64::from(*number))
+    /// ```
     #[inline(always)]
     pub fn acquire<'a, R: Wait + Clock>(&'a self, rt: &'a R, alloc: Global) -> Acquire<'a, R> {
         Acquire::new(Obtaining::new(Borrowed { lock: self, rt }, alloc, Taker::default()))
@@ -187,6 +212,17 @@ impl Semaphore {
     ///
     /// The wait and the guard keep the semaphore by a share of its `Arc`. An error says that no further share could be counted:
     /// then nothing is asked for.
+    ///
+    /// The guard goes to a new thread, which gives the permit back after its job. The first `?` propagates an `AllocError`, if
+    /// no further share could be counted, and the second an error of the wait:
+    ///
+    /// ```rust
+    /// let permit = Semaphore::acquire_arc(permits, rt, alloc)?.wait()?;
+    ///
+    /// let answer = job();
+    /// drop(permit);
+    /// answer
+    /// ```
     pub fn acquire_arc<R: Wait + Clock + Drop>(
         this: &Arc<Self, Global>,
         rt: R,
@@ -201,6 +237,17 @@ impl Semaphore {
     ///
     /// Where another thread has the queue, that thread notifies. The call may block for the queue only to wake more than eight
     /// waiters.
+    ///
+    /// Here the semaphore has one permit, and `take_two` waits until another thread has added the second:
+    ///
+    /// ```rust
+    /// let shared = Arc::try_clone(&permits)?;
+    /// let other = thread::spawn(&rt, move || {
+    ///     thread::sleep(&rt, Duration::from_millis(20));
+    ///     shared.add_permits(&rt, 1);
+    /// })?;
+    /// let free = take_two(&rt, alloc, &permits)?;
+    /// ```
     pub fn add_permits<R: Wait>(&self, rt: &R, n: usize) {
         self.word.add(rt, n as u64);
     }

@@ -33,6 +33,15 @@ struct PlaceArc<T, R> {
 /// waiter.
 ///
 /// The guard dereferences to the value. A contract sees the guard as the value.
+///
+/// Here `guard` is what a wait with a limit returned. The value is read and written through the guard `balance`, and given back
+/// where the function returns:
+///
+/// ```rust
+/// let mut balance = guard.context("the balance was not free in time")?;
+/// *balance = balance.saturating_add(amount);
+/// Ok(())
+/// ```
 #[must_use = "a guard that is dropped at once gives back what it holds"]
 pub struct MutexGuard<'a, T: Drop, R: Wait + Clock> {
     place: Place<'a, T, R>,

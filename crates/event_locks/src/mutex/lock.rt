@@ -19,6 +19,16 @@ use std::time::{Clock, Duration, Instant};
 /// task awaits it, since it is a future; a poll after its output answers [`LockError::Finished`]. Threads and tasks wait in one
 /// queue. A `Lock` that was polled and is then waited on keeps its place there. A `Lock` that is dropped while it waits leaves
 /// the queue, and a notification that it had goes to the next waiter.
+///
+/// A future that has a `Lock` polls that `Lock` in its own poll. Here such a future adds to a balance, and adds nothing if the
+/// wait fails:
+///
+/// ```rust
+/// if let Ok(mut balance) = ready!(self.lock.poll(cx)) {
+///     *balance = balance.saturating_add(self.amount);
+/// }
+/// Poll::Ready(())
+/// ```
 #[must_use = "nothing is asked for until it is waited on or polled"]
 #[derive(Drop)]
 pub struct Lock<'a, T: Drop, R: Wait + Clock> {
@@ -47,6 +57,11 @@ impl<'a, T: Drop, R: Wait + Clock> Lock<'a, T, R> {
     ///
     /// The call first tries at once. Where it has to wait it takes memory, for a place in the queue and for what the thread
     /// parks on. An error says that it could not wait: then the caller is in no queue.
+    ///
+    /// ```rust
+    /// let balance = balance.lock(&rt, alloc).wait()?;
+    /// Ok(*balance)
+    /// ```
     #[inline(always)]
     pub fn wait(self) -> Result<MutexGuard<'a, T, R>, LockError> {
         let (hold, lent) = match self.obtaining.at_once() {
@@ -65,6 +80,16 @@ impl<'a, T: Drop, R: Wait + Clock> Lock<'a, T, R> {
     /// After `None` or an error the caller is in no queue. With a `timeout` of zero the call only tries at once: it joins no
     /// queue and takes no memory. A moment too late to be represented never arrives, so then the call waits without a limit. A
     /// clock that can't be read counts as one that shows that the time has passed.
+    ///
+    /// Here the `?` propagates an error of the wait, and `context` makes an error of the `None`:
+    ///
+    /// ```rust
+    /// let guard = balance
+    ///     .lock(rt, alloc)
+    ///     .wait_timeout(Duration::from_secs(1))?;
+    /// let mut balance = guard.context("the balance was not free in time")?;
+    /// *balance = balance.saturating_add(amount);
+    /// ```
     pub fn wait_timeout(
         self,
         timeout: Duration,

@@ -202,6 +202,16 @@ impl<T, R> HeldArc<T, R, Writing> {
 /// that leaves lets in the next writer.
 ///
 /// The guard dereferences to the value. A contract sees the guard as `Some` of the value.
+///
+/// Here `reader` is such a guard, by which a method of the value is called. The guard is dropped before its owner asks to
+/// write, because a writer waits until all readers have left:
+///
+/// ```rust
+/// if let Some(square) = reader.get(number) {
+///     return Ok(square);
+/// }
+/// drop(reader);
+/// ```
 #[must_use = "a guard that is dropped at once ends the reading"]
 pub struct RwLockReadGuard<'a, T, R: Wait + Clock> {
     grant: Grant<'a, Reading, Hidden<T>>,
@@ -213,6 +223,13 @@ pub struct RwLockReadGuard<'a, T, R: Wait + Clock> {
 /// all readers that wait, or else the next writer.
 ///
 /// The guard dereferences to the value. A contract sees the guard as the value.
+///
+/// The value is written through the guard, and the drop ends the writing:
+///
+/// ```rust
+/// *writer = writer.saturating_mul(2);
+/// drop(writer);
+/// ```
 #[must_use = "a guard that is dropped at once ends the writing"]
 pub struct RwLockWriteGuard<'a, T, R: Wait + Clock> {
     tied: Tied<'a, Place<Hidden<T>>, Queues<Task>, Lending<'a, RwLock<T>, R>>,

@@ -25,6 +25,12 @@ use std::time::{Clock, Duration, Instant};
 ///
 /// A `Read` that was let in has the lock, whether it is polled or not. So one that is kept unpolled keeps others out, for
 /// example as one arm of a `select` whose other arm asks for the same lock.
+///
+/// A task awaits a `Read`. The first `?` propagates an error of the executor, the second an error of the wait:
+///
+/// ```rust
+/// Ok(*block_on(rt, value.read(rt, alloc))??)
+/// ```
 #[must_use = "nothing is asked for until it is waited on or polled"]
 #[derive(Drop)]
 pub struct Read<'a, T, R: Wait + Clock> {
@@ -53,6 +59,13 @@ impl<'a, T, R: Wait + Clock> Read<'a, T, R> {
     ///
     /// The call first tries at once. Where it has to wait it takes memory, for a place in the queue and for what the thread
     /// parks on. An error says that it could not wait: then the caller is in no queue.
+    ///
+    /// ```rust
+    /// let reader = cache.read(rt, alloc).wait()?;
+    /// if let Some(square) = reader.get(number) {
+    ///     return Ok(square);
+    /// }
+    /// ```
     #[inline(always)]
     pub fn wait(self) -> Result<RwLockReadGuard<'a, T, R>, LockError> {
         let (hold, grant) = self.obtaining.wait()?;
@@ -170,6 +183,13 @@ impl<T: Drop, R: Wait + Clock + Drop> Future for ReadArc<T, R> {
 ///
 /// A `Write` that was let in has the lock, whether it is polled or not. So one that is kept unpolled keeps others out, for
 /// example as one arm of a `select` whose other arm asks for the same lock.
+///
+/// A task awaits a `Write`. The first `?` propagates an error of the executor, the second an error of the wait:
+///
+/// ```rust
+/// let mut writer = block_on(rt, value.write(rt, alloc))??;
+/// *writer = writer.saturating_mul(2);
+/// ```
 #[must_use = "nothing is asked for until it is waited on or polled"]
 #[derive(Drop)]
 pub struct Write<'a, T, R: Wait + Clock> {
@@ -198,6 +218,12 @@ impl<'a, T, R: Wait + Clock> Write<'a, T, R> {
     ///
     /// The call first tries at once. Where it has to wait it takes memory, for a place in the queue and for what the thread
     /// parks on. An error says that it could not wait: then the caller is in no queue.
+    ///
+    /// ```rust
+    /// let mut writer = cache.write(rt, alloc).wait()?;
+    ///
+    /// Ok(writer.add(number)?)
+    /// ```
     #[inline(always)]
     pub fn wait(self) -> Result<RwLockWriteGuard<'a, T, R>, LockError> {
         let (hold, grant) = self.obtaining.wait()?;

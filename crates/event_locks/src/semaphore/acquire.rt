@@ -22,6 +22,15 @@ use std::time::{Clock, Duration, Instant};
 /// [`LockError::Finished`]. Threads and tasks wait in one queue. An `Acquire` that was polled and is then waited on keeps its
 /// place there. An `Acquire` that is dropped while it waits leaves the queue, and a notification that it had goes to the next
 /// waiter.
+///
+/// A task awaits two permits at once. The first `?` propagates an error of the executor, the others an error of a wait. Two
+/// tasks that do so may wait for each other for ever, if each has one permit and no other is free:
+///
+/// ```rust
+/// let both = join(permits.acquire(rt, alloc), permits.acquire(rt, alloc));
+/// let (first, second) = block_on(rt, both)?;
+/// let held = (first?, second?);
+/// ```
 #[must_use = "nothing is asked for until it is waited on or polled"]
 #[derive(Drop)]
 pub struct Acquire<'a, R: Wait + Clock> {
@@ -32,6 +41,12 @@ pub struct Acquire<'a, R: Wait + Clock> {
 /// thread.
 ///
 /// It is waited on, awaited and dropped like an [`Acquire`].
+///
+/// The first `?` propagates an `AllocError`, if no further share could be counted, and the second an error of the wait:
+///
+/// ```rust
+/// let permit = Semaphore::acquire_arc(permits, rt, alloc)?.wait()?;
+/// ```
 #[must_use = "nothing is asked for until it is waited on or polled"]
 #[derive(Drop)]
 pub struct AcquireArc<R: Wait + Clock + Drop> {
@@ -48,6 +63,10 @@ impl<'a, R: Wait + Clock> Acquire<'a, R> {
     ///
     /// The call first tries at once. Where it has to wait it takes memory, for a place in the queue and for what the thread
     /// parks on. An error says that it could not wait, or that the semaphore is closed: then the caller is in no queue.
+    ///
+    /// ```rust
+    /// let _permit = permits.acquire(rt, alloc).wait().ok()?;
+    /// ```
     #[inline(always)]
     pub fn wait(self) -> Result<SemaphoreGuard<'a, R>, AcquireError>
         ensures one { IfOk result (λ guard. guard ≡ 1) }

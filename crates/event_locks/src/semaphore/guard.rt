@@ -16,6 +16,14 @@ use std::time::Clock;
 /// waiters.
 ///
 /// A contract sees the guard as the number of its permits.
+///
+/// Here `first` and `second` are what two waits returned, and the drop gives both permits back:
+///
+/// ```rust
+/// let held = (first?, second?);
+/// let free = permits.available();
+/// drop(held);
+/// ```
 #[must_use = "a guard that is dropped at once gives back what it holds"]
 pub struct SemaphoreGuard<'a, R: Wait + Clock> {
     hold: Borrowed<'a, Semaphore, R>,
@@ -28,6 +36,14 @@ pub struct SemaphoreGuard<'a, R: Wait + Clock> {
 ///
 /// Dropping the guard gives the permits back, and notifies as many waiters. A contract sees the guard as the number of its
 /// permits.
+///
+/// Here the guard `permit` is part of the closure that a thread runs. The thread gives the permit back after its job:
+///
+/// ```rust
+/// let answer = job();
+/// drop(permit);
+/// answer
+/// ```
 #[must_use = "a guard that is dropped at once gives back what it holds"]
 pub struct SemaphoreGuardArc<R: Wait + Clock + Drop> {
     hold: Shared<Semaphore, R>,
