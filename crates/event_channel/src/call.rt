@@ -22,6 +22,14 @@ pub(crate) type RestingHand<T> = IdleHand<Messages<T, Task>, ChannelCall<T>>;
 ///
 /// A contract sees it as the hand of the channel's lock: the history that it has seen, and its own calls in it. Between two
 /// calls of its owner it waits in no queue.
+///
+/// A hand is made, lent to a function that makes calls with it, and ended:
+///
+/// ```rust
+/// let mut hand = sender.hand();
+/// let exchanged = send_then_receive(rt, &sender, &receiver, &mut hand, 7);
+/// hand.end();
+/// ```
 pub struct ChannelHand<T> {
     pub(crate) hand: LockHand<T>,
 }

@@ -9,6 +9,14 @@ use std::fmt::{Debug, Display, Formatter};
 use thiserror::Error;
 
 /// Why a wait was refused.
+///
+/// A function that iterates over messages propagates this error by `?`:
+///
+/// ```rust
+/// fn work<R: Wait + Clock + Clone>(jobs: Receiver<Job<R>, R>) -> Result<(), WaitError> {
+///     for job in jobs.iter() {
+///         let Job { number, answer } = job?;
+/// ```
 #[derive(Clone, Copy, Debug, PartialEq, Eq, Error)]
 pub enum WaitError {
     /// The caller could not join the queue: memory was refused, or the serial numbers of the queue are used up.
@@ -42,6 +50,14 @@ pub enum SendReason {
 }
 
 /// A message that was not sent, and why. The caller has the message again.
+///
+/// Here `late` is the answer of a send that came after the close, and the closure takes the reason and the message out of its
+/// error:
+///
+/// ```rust
+/// let (sum, late) = close_gracefully(rt, rt.alloc())?;
+/// let late = late.map_err(|refused| (refused.reason, refused.message));
+/// ```
 #[derive(Clone, Copy, PartialEq, Eq, Drop)]
 pub struct SendError<T> {
     pub message: T,
@@ -60,6 +76,13 @@ pub enum TryRecvError {
 }
 
 /// Why no message was received.
+///
+/// A worker ends without an error once the channel is closed and empty, and returns any other error:
+///
+/// ```rust
+/// Err(RecvError::Closed) => return Ok(sum),
+/// Err(error) => return Err(error),
+/// ```
 #[derive(Clone, Copy, Debug, PartialEq, Eq, Error)]
 pub enum RecvError {
     /// The channel is closed and empty, so no message will come.

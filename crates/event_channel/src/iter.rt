@@ -10,6 +10,13 @@ use std::sync::{Forever, Wait};
 use std::time::Clock;
 
 /// The messages of a channel, each once it has been sent. [`iter`](Receiver::iter) makes this.
+///
+/// Each item is a message, or the error of a wait that was refused:
+///
+/// ```rust
+/// for job in jobs.iter() {
+///     let Job { number, answer } = job?;
+/// ```
 #[derive(Drop)]
 pub struct Iter<'a, T: Drop, R: Wait + Clock + Clone> {
     receiver: &'a Receiver<T, R>,
@@ -29,6 +36,18 @@ impl<T: Drop, R: Wait + Clock + Clone> Receiver<T, R> {
     ///
     /// Each step blocks the thread until there is a message, and takes memory where it has to wait. An item is an error if the
     /// step could not wait, like that of [`recv_blocking`](Receiver::recv_blocking); the next step tries again.
+    ///
+    /// A worker does jobs until the channel is closed and empty. The `?` propagates a `WaitError`:
+    ///
+    /// ```rust
+    /// for job in jobs.iter() {
+    ///     let Job { number, answer } = job?;
+    ///     if let Some(square) = number.checked_mul(number) {
+    ///         // There is room. Perhaps nobody waits for the answer any more.
+    ///         let _ = answer.try_send(square);
+    ///     }
+    /// }
+    /// ```
     pub fn iter(&self) -> Iter<'_, T, R> {
         Iter {
             receiver: self,

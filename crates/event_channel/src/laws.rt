@@ -59,6 +59,14 @@ pub fn sent_is_received_in_order<T, W>()
 ///
 /// What one hand receives was sent. Where one hand sent a message, and another hand joins it and then finds no message, the
 /// message has gone out, or each message in the channel was due to a notified receiver while a receiver starved.
+///
+/// Here `other` is the hand with which another thread has sent:
+///
+/// ```rust
+/// receiver.join(hand, other);
+/// let received = receiver.try_recv_as(hand);
+/// no_message_is_lost::<u64, Task>();
+/// ```
 pub fn no_message_is_lost<T, W>()
     ensures received { (capacity : Option ℕ) (v w : View (State T W) (ChannelCall T))
         (reply : Result T TryRecvError)

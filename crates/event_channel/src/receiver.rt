@@ -31,9 +31,12 @@ use std::{fmt, mem};
 /// lock of the channel, as the calls of a [`Sender`](crate::Sender) may. A receiver is also a stream of the messages, which
 /// ends when the channel is closed and empty. A contract sees the lock of the channel and its capacity.
 ///
+/// [`recv_blocking`](Receiver::recv_blocking) and [`iter`](Receiver::iter) show how a worker receives. Each worker gets a
+/// receiver of its own:
+///
 /// ```rust
-/// for job in jobs.iter() {
-///     let Job { number, answer } = job?;
+/// let numbers = receiver.clone()?;
+/// workers.push(thread::spawn(&rt, move || add_squares(rt, numbers))?)?;
 /// ```
 pub struct Receiver<T: Drop, R: Wait + Clock + Clone> {
     link: Link<T, R>,
@@ -99,6 +102,14 @@ impl<T: Drop, R: Wait + Clock + Clone> Receiver<T, R> {
 
     /// Ends the hand `other`, and has `hand` learn what `other` saw and did. From here on a contract speaks of one history that
     /// has the calls of both. It is two loads, which never block.
+    ///
+    /// Here `other` is the hand with which another thread has sent. What `hand` receives then stands in the history after that
+    /// send:
+    ///
+    /// ```rust
+    /// receiver.join(hand, other);
+    /// let received = receiver.try_recv_as(hand);
+    /// ```
     pub fn join(&self, hand: &mut ChannelHand<T>, other: ChannelHand<T>)
         requires here { IsOf self.now.channel.table hand.old }
         requires there { IsOf self.now.channel.table other }
@@ -125,6 +136,14 @@ impl<T: Drop, R: Wait + Clock + Clone> Receiver<T, R> {
     ///
     /// The call is the last of one history, which begins with all that the hand had seen, and which has of this hand just its
     /// own calls.
+    ///
+    /// Here `other` is the hand with which another thread has sent, and a law says what `received` may be:
+    ///
+    /// ```rust
+    /// receiver.join(hand, other);
+    /// let received = receiver.try_recv_as(hand);
+    /// no_message_is_lost::<u64, Task>();
+    /// ```
     #[inline(always)]
     pub fn try_recv_as(&self, hand: &mut ChannelHand<T>) -> Result<T, TryRecvError>
         requires { IsOf self.now.channel.table hand.old }
@@ -137,6 +156,15 @@ impl<T: Drop, R: Wait + Clock + Clone> Receiver<T, R> {
 
     /// Receives a message once there is one, as a future: await it, or block on it by [`wait`](crate::Recv::wait). Nothing is
     /// received before it is polled, and no message is lost if it is dropped.
+    ///
+    /// A thread waits for the messages of two channels at once. The first `?` propagates an error of the executor, the second
+    /// an error of the receive:
+    ///
+    /// ```rust
+    /// let received = block_on(rt, select(urgent.recv(), others.recv()))?;
+    /// let (number, _) = received.factor_first();
+    /// Ok(number?)
+    /// ```
     pub fn recv(&self) -> Recv<'_, T, R>
         ensures { result ≡ self.now.channel }
     {
@@ -147,6 +175,16 @@ impl<T: Drop, R: Wait + Clock + Clone> Receiver<T, R> {
     ///
     /// An error says that the channel is closed and empty, or that the call could not wait. Where it has to wait it takes
     /// memory, for a place in the queue and for what the thread parks on.
+    ///
+    /// A worker receives in a loop, and ends without an error once the channel is closed and empty:
+    ///
+    /// ```rust
+    /// match numbers.recv_blocking() {
+    ///     Ok(number) => sum = sum.saturating_add(number.saturating_mul(number)),
+    ///     Err(RecvError::Closed) => return Ok(sum),
+    ///     Err(error) => return Err(error),
+    /// }
+    /// ```
     #[inline(always)]
     pub fn recv_blocking(&self) -> Result<T, RecvError> {
         let mut hand = self.hand();

@@ -24,6 +24,13 @@ use std::time::{Clock, Duration, Instant};
 ///
 /// Poll it or drop it once its task is woken. Left alone it stops nobody for good: if it [starves](crate::PATIENCE), others are
 /// refused what is due to it [so often](crate::FORBEARANCE), and then it waits anew when it is polled.
+///
+/// One of two such futures receives, and the other is dropped, which loses no message:
+///
+/// ```rust
+/// let received = block_on(rt, select(urgent.recv(), others.recv()))?;
+/// let (number, _) = received.factor_first();
+/// ```
 #[must_use = "nothing is received before it is polled"]
 pub struct Recv<'a, T: Drop, R: Wait + Clock + Clone> {
     channel: &'a Channel<T>,

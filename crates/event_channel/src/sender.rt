@@ -58,6 +58,14 @@ impl<T: Drop, R: Wait + Clock + Clone> Model for Sender<T, R> {
 /// The call takes room for `capacity` messages, so no later call takes memory for a message. An error says that `capacity` is 0
 /// or that there is no memory. Both sides keep clones of `rt`. The history of which a hand knows begins where the channel is
 /// open, without messages and of this capacity, which [`capacity_is_kept`](crate::capacity_is_kept) keeps.
+///
+/// A channel with room for one message carries the answer to a job: the job gets the sender, and the caller the receiver:
+///
+/// ```rust
+/// let (answer, receiver) = bounded(&rt, alloc, 1)?;
+/// self.jobs.send_blocking(Job { number, answer })?;
+/// Ok(Answer { receiver })
+/// ```
 pub fn bounded<T: Drop, R: Wait + Clock + Clone>(
     rt: &R,
     alloc: Global,
@@ -80,6 +88,17 @@ pub fn bounded<T: Drop, R: Wait + Clock + Clone>(
 ///
 /// An error says that there is no memory. Both sides keep clones of `rt`. The history of which a hand knows begins where the
 /// channel is open, without messages and without a limit.
+///
+/// Workers take jobs from one channel, each by a clone of the receiver:
+///
+/// ```rust
+/// let (jobs, receiver) = unbounded(&rt, alloc)?;
+/// let mut workers = Vec::with_capacity(alloc, size)?;
+/// for _ in 0..size {
+///     let jobs = receiver.clone()?;
+///     workers.push(thread::spawn(&rt, move || work(jobs))?)?;
+/// }
+/// ```
 pub fn unbounded<T: Drop, R: Wait + Clock + Clone>(
     rt: &R,
     alloc: Global,
@@ -124,6 +143,14 @@ impl<T: Drop, R: Wait + Clock + Clone> Sender<T, R> {
     ///
     /// The hand has made no call yet, and has seen a beginning of the history; how much of it, no clause says. It has no bytes,
     /// and making it is one load, which never blocks. A hand can't be dropped: end it by its [`end`](crate::ChannelHand::end).
+    ///
+    /// The hand is lent to a function whose contract speaks of the history, and ended after that:
+    ///
+    /// ```rust
+    /// let mut hand = sender.hand();
+    /// let exchanged = send_then_receive(rt, &sender, &receiver, &mut hand, 7);
+    /// hand.end();
+    /// ```
     #[inline(always)]
     pub fn hand(&self) -> ChannelHand<T>
         ensures { IsOf self.now.channel.table result
@@ -133,6 +160,14 @@ impl<T: Drop, R: Wait + Clock + Clone> Sender<T, R> {
     }
 
     /// Makes a new hand that has seen as much of the history of this channel as `hand` has. It is one load, which never blocks.
+    ///
+    /// A hand is forked for another thread, and joined once that thread has made its calls:
+    ///
+    /// ```rust
+    /// let mut other = sender.fork(hand);
+    ///
+    /// receiver.join(hand, other);
+    /// ```
     pub fn fork(&self, hand: &mut ChannelHand<T>) -> ChannelHand<T>
         requires { IsOf self.now.channel.table hand.old }
         ensures hand { SameTable hand.old hand.new
@@ -160,6 +195,15 @@ impl<T: Drop, R: Wait + Clock + Clone> Sender<T, R> {
     /// An error has the message again. While a send [starves](crate::PATIENCE), a place that is due to a notified send is not
     /// free for this call: it answers `Full` then, at most [so often](crate::FORBEARANCE) for the sake of each such send. The
     /// call takes memory only where the channel has no limit and no room left.
+    ///
+    /// Here `answer` is the only sender of a channel with room for one message, into which nothing was sent yet:
+    ///
+    /// ```rust
+    /// if let Some(square) = number.checked_mul(number) {
+    ///     // There is room. Perhaps nobody waits for the answer any more.
+    ///     let _ = answer.try_send(square);
+    /// }
+    /// ```
     #[inline(always)]
     pub fn try_send(&self, message: T) -> Result<(), SendError<T>>
         ensures returned { IfErr result (λ error. error.message ≡ message) }
@@ -175,6 +219,17 @@ impl<T: Drop, R: Wait + Clock + Clone> Sender<T, R> {
     ///
     /// The call is the last of one history, which begins with all that the hand had seen, and which has of this hand just its
     /// own calls.
+    ///
+    /// Another thread sends as a call of a hand of its own. The line in the middle is the body of the closure that this thread
+    /// runs:
+    ///
+    /// ```rust
+    /// let mut other = sender.fork(hand);
+    ///
+    /// { sender.try_send_as(&mut other, number) },
+    ///
+    /// receiver.join(hand, other);
+    /// ```
     #[inline(always)]
     pub fn try_send_as(&self, hand: &mut ChannelHand<T>, message: T) -> Result<(), SendError<T>>
         requires { IsOf self.now.channel.table hand.old }
@@ -237,6 +292,15 @@ impl<T: Drop, R: Wait + Clock + Clone> Sender<T, R> {
     ///
     /// An error has the message again: the channel is closed, or the call could not wait. Where it has to wait it takes memory,
     /// for a place in the queue and for what the thread parks on.
+    ///
+    /// Here the `?` propagates a `SendError`, which has the number that was not sent:
+    ///
+    /// ```rust
+    /// for number in 1..=NUMBERS {
+    ///     numbers.send_blocking(number)?;
+    /// }
+    /// Ok(())
+    /// ```
     #[inline(always)]
     pub fn send_blocking(&self, message: T) -> Result<(), SendError<T>>
         ensures returned { IfErr result (λ error. error.message ≡ message) }
@@ -331,6 +395,15 @@ impl<T: Drop, R: Wait + Clock + Clone> Sender<T, R> {
     ///
     /// From here on no message is sent; messages in the channel can still be received. All waiters but the last are woken under
     /// the lock of the channel.
+    ///
+    /// Workers receive what was sent before the close, and then end. A later send fails, and `late` has its message:
+    ///
+    /// ```rust
+    /// numbers.close();
+    /// let late = numbers.send_blocking(11);
+    /// let sum = join_workers(&rt, workers)?;
+    /// Ok((sum, late))
+    /// ```
     pub fn close(&self) -> bool {
         let mut hand = self.hand();
         let closed = self.close_as(&mut hand);
