@@ -43,6 +43,18 @@ pub(crate) type QueueHand<T> = Hand<List<T, Task>, QueueCall<T, Task>>;
 ///
 /// A contract sees an event as the number of its identity. No contract can name what is in its queue, because other threads
 /// may change the queue at any time.
+///
+/// A thread waits for the tag 7 with which another thread notifies. The listener is made first, so the notification finds
+/// it:
+///
+/// ```rust
+/// let event = Event::with_tag(EventIds::new().next()?);
+/// let listener = event.listen(&rt, alloc)?;
+/// let worker = thread::spawn(&rt, move || event.notify(&rt, 1.tag(7u32)))?;
+/// let waited = listener.wait();
+/// worker.join(&rt)?;
+/// Ok(waited?)
+/// ```
 #[derive(Drop)]
 pub struct Event<T = ()> {
     id: EventId,
@@ -64,6 +76,12 @@ impl<T> Event<T> {
     ///
     /// The queue of the event is made later, by the first call that registers a listener, makes a
     /// [`StackSlot`](crate::StackSlot) or makes an [`EventHand`]. Takes no memory and never blocks.
+    ///
+    /// ```rust
+    /// let event = Event::with_tag(id);
+    /// let first = event.listen(rt, alloc)?;
+    /// let second = event.listen(rt, alloc)?;
+    /// ```
     pub fn with_tag(id: EventId) -> Self
         ensures { result ≡ id }
     {
@@ -97,6 +115,16 @@ impl<T> Event<T> {
     ///
     /// Takes memory for the queue if there is none yet, and for the listener if no slot of an earlier listener is spare. May
     /// block until the lock of the event is free, or until another thread has made the queue.
+    ///
+    /// Here a thread that waits for a flag listens to the event `set` of the flag, and then looks at the flag again:
+    ///
+    /// ```rust
+    /// let listener = self.set.listen(rt, alloc)?;
+    /// // A notification that came before the listener was in the queue does not reach it, so look again.
+    /// if self.is_set() {
+    ///     return Ok(());
+    /// }
+    /// ```
     #[inline(always)]
     pub fn listen<R>(&self, rt: &R, alloc: Global) -> Result<EventListener<T, R>, ListenError>
     where
@@ -176,6 +204,16 @@ impl<T> Event<T> {
     /// listeners notified before that stay notified, and all others wait on in their order.
     ///
     /// Takes only the memory that the notification takes for its tags. May block until the lock of the event is free.
+    ///
+    /// The first call notifies the first listener that waits, unless another listener is notified already. The second call
+    /// notifies the first listener that waits in any case. The tag is a number, whose clone never fails, so neither call
+    /// returns an error:
+    ///
+    /// ```rust
+    /// event.notify(rt, 1.tag(tag)).unwrap()
+    ///
+    /// event.notify(rt, 1.additional().tag(tag)).unwrap()
+    /// ```
     #[inline(always)]
     pub fn notify<R: Wait, N: IntoNotification<Tag = T>>(
         &self,
@@ -242,6 +280,13 @@ impl Event<()> {
     ///
     /// The queue of the event is made later, by the first call that registers a listener, makes a
     /// [`StackSlot`](crate::StackSlot) or makes an [`EventHand`]. Takes no memory and never blocks.
+    ///
+    /// ```rust
+    /// Desk {
+    ///     is_taken: AtomicBool::new(false),
+    ///     left: Event::new(id),
+    /// }
+    /// ```
     pub fn new(id: EventId) -> Event<()>
         ensures { result ≡ id }
     {
@@ -254,6 +299,14 @@ impl Event<()> {
     /// which means what `n` means, because [`Relaxed`](crate::Relaxed) changes nothing in this crate. The call returns no
     /// error, because a notification without tags refuses no tag. Takes no memory. May block until the lock of the event is
     /// free.
+    ///
+    /// Whoever changes what others wait for makes the change first and notifies then. Here all who wait for a flag are
+    /// notified:
+    ///
+    /// ```rust
+    /// self.is_set.store(true, Ordering::SeqCst);
+    /// self.set.notify_relaxed(rt, usize::MAX);
+    /// ```
     #[inline(always)]
     pub fn notify_relaxed<R: Wait>(&self, rt: &R, n: usize) -> usize
         ensures { result ≤ n }

@@ -25,6 +25,13 @@ use event_wait::Task;
 ///
 /// A listener's own hand knows it from the insertion on. Each hand learns it that joins a hand which knows it, and each hand
 /// that is forked from such a hand. Does nothing when a program runs.
+///
+/// Here `other` was forked from a hand that knew that the listener had listened:
+///
+/// ```rust
+/// listener.join(other);
+/// listening_is_known::<()>();
+/// ```
 pub fn listening_is_known<T>()
     ensures listened { (key : Key) (v w : Known T) → Calls v (Insert (Ok key)) w
         → HasListened key w.seen }
@@ -45,6 +52,14 @@ pub fn listening_is_known<T>()
 /// were notified after that. Each hand learns this that joins such a hand or is forked from one. If the listener's own hand
 /// knows it, and did not remove the listener, then a removal finds the listener notified, a poll gives its tag, and a wait
 /// gives its tag or fails for memory. Does nothing when a program runs.
+///
+/// Here the listener has joined the hand of a thread that knew of the listener and notified all:
+///
+/// ```rust
+/// listening_is_known::<()>();
+/// notifying_all_is_known::<()>();
+/// Ok(listener.discard())
+/// ```
 pub fn notifying_all_is_known<T>()
     ensures notified { (key : Key) (v w : Known T) → NotifiesAll v w → HasListened key v.seen
         → AllNotified key w.seen }

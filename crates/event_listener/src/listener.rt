@@ -28,6 +28,15 @@ use thiserror::Error;
 pub use wait_error::{WaitError, WaitReason};
 
 /// The error of a listener that is not in the queue any more, because it has given its tag.
+///
+/// A task propagates this error by `?`, because the variant below makes an error of the task from a `NeverInserted`:
+///
+/// ```rust
+/// Ok(block_on(rt, listener)??)
+///
+/// #[error("{0}")]
+/// NeverInserted(#[from] NeverInserted),
+/// ```
 #[derive(Clone, Copy, Debug, PartialEq, Eq, Error)]
 #[error("listener is not in the queue")]
 pub struct NeverInserted;
@@ -91,6 +100,16 @@ pub trait Listener<T>: Sized {
     /// so no task is woken. If the stored waker is of another task, the task's own waker replaces it, and that other task is
     /// woken. If no waker can be made, the task asks for another poll. Errors, memory and the lock are as for
     /// [`poll`](Listener::poll).
+    ///
+    /// Here a future polls its listener `work`, and makes its output of the tag:
+    ///
+    /// ```rust
+    /// match self.work.poll_in(cx) {
+    ///     Ok(Poll::Ready(work)) => Poll::Ready(Ok(Order::Work(work))),
+    ///     Ok(Poll::Pending) => Poll::Pending,
+    ///     Err(gone) => Poll::Ready(Err(gone)),
+    /// }
+    /// ```
     fn poll_in(&mut self, cx: &mut Context<'_>) -> Result<Poll<T>, NeverInserted>
         ensures polled { IsPolled (standing self.old) result (standing self.new) }
 
@@ -114,6 +133,14 @@ pub trait Listener<T>: Sized {
     /// Waits until the listener is notified, and returns the tag.
     ///
     /// The call is [`wait_until`](Listener::wait_until) with [`Limit::Never`], and fails as that does.
+    ///
+    /// The first `?` propagates a [`ListenError`](crate::ListenError), the second a [`WaitError`], each as an error of the
+    /// caller:
+    ///
+    /// ```rust
+    /// let listener = event.listen(rt, alloc)?;
+    /// Ok(listener.wait()?)
+    /// ```
     fn wait(self) -> Result<T, WaitError<Self>>
         ensures finished { (standing self).is_finished ≡ true → IsErr result }
         ensures memory { IfErr result (HandsBack standing self) }
@@ -129,6 +156,14 @@ pub trait Listener<T>: Sized {
     /// The call is [`wait_until`](Listener::wait_until) with [`Limit::after`], by the clock of the listener, and fails as
     /// that does. Each call begins its time anew: to retry after an error against one limit, call
     /// [`wait_deadline`](Listener::wait_deadline).
+    ///
+    /// Where the clock can't be read this caller waits for no time: the listener gives the tag that it has, or `None`:
+    ///
+    /// ```rust
+    /// let Ok(now) = Instant::now(rt) else {
+    ///     return listener.wait_timeout(Duration::ZERO);
+    /// };
+    /// ```
     fn wait_timeout(self, timeout: Duration) -> Result<Option<T>, WaitError<Self>>
         ensures finished { (standing self).is_finished ≡ true → IsErr result }
         ensures memory { IfErr result (HandsBack standing self) };
@@ -137,6 +172,15 @@ pub trait Listener<T>: Sized {
     ///
     /// The call is [`wait_until`](Listener::wait_until) with [`Limit::At`], and fails as that does. A clock that can't be
     /// read counts as one that shows the deadline.
+    ///
+    /// A wait that was refused memory is retried once, by the same listener and against the same deadline:
+    ///
+    /// ```rust
+    /// match listener.wait_deadline(deadline) {
+    ///     Err(WaitError::Memory(listener)) => listener.wait_deadline(deadline),
+    ///     answer => answer,
+    /// }
+    /// ```
     fn wait_deadline(self, deadline: Instant) -> Result<Option<T>, WaitError<Self>>
         ensures finished { (standing self).is_finished ≡ true → IsErr result }
         ensures memory { IfErr result (HandsBack standing self) }
@@ -148,6 +192,14 @@ pub trait Listener<T>: Sized {
     ///
     /// For a finished listener the call returns `false`, because that listener is not in the queue. Takes no memory. May
     /// block until the lock of the event is free.
+    ///
+    /// The caller returns whether its listener was notified:
+    ///
+    /// ```rust
+    /// let mut listener = hand.listen(rt, alloc)?;
+    ///
+    /// Ok(listener.discard())
+    /// ```
     fn discard(self) -> bool
         ensures finished { (standing self).is_finished ≡ true → result ≡ false };
 

@@ -31,6 +31,14 @@ use std::time::Clock;
 /// has no trace of the history.
 ///
 /// A contract sees a hand as the number of its event, the name of the queue's lock, and what the hand knows.
+///
+/// A hand registers a listener, and then learns that the listener has registered:
+///
+/// ```rust
+/// let mut hand = event.hand(rt, alloc)?;
+/// let mut first = hand.listen(rt, alloc)?;
+/// hand.observe(&mut first);
+/// ```
 pub struct EventHand<T = ()> {
     shared: Arc<Shared<T>>,
     hand: QueueHand<T>,
@@ -63,6 +71,11 @@ impl<T> Event<T> {
     ///
     /// Returns an error if there is no memory for the queue, or no further share of the queue can be made. Takes memory for
     /// the queue if there is none yet. May block until another thread has made the queue.
+    ///
+    /// ```rust
+    /// let mut hand = event.hand(rt, alloc)?;
+    /// let mut listener = hand.listen(rt, alloc)?;
+    /// ```
     pub fn hand<R: Wait>(&self, rt: &R, alloc: Global) -> Result<EventHand<T>, AllocError>
     where
         T: Drop,
@@ -83,6 +96,13 @@ impl<T> EventHand<T> {
     /// Notifies the first listeners that wait, as a call of this hand, and returns how many were notified.
     ///
     /// What the call does, which error it returns and when it blocks is said at [`Event::notify`].
+    ///
+    /// Here another thread notifies all who listen, and returns its hand:
+    ///
+    /// ```rust
+    /// let _ = other.notify(rt, usize::MAX.additional());
+    /// other
+    /// ```
     #[inline(always)]
     pub fn notify<R: Wait, N: IntoNotification<Tag = T>>(
         &mut self,
@@ -124,6 +144,13 @@ impl<T> EventHand<T> {
     /// Returns how many listeners are notified, and how many are in the queue, as a call of this hand.
     ///
     /// Another thread may change both at once. Takes no memory. May block until the lock of the event is free.
+    ///
+    /// ```rust
+    /// let (_, listeners) = hand.counts(rt);
+    /// if listeners != 2 {
+    ///     return Ok(None);
+    /// }
+    /// ```
     pub fn counts<R: Wait>(&mut self, rt: &R) -> (usize, usize)
         ensures call { Calls self.old.knows (call.Counts result.0 result.1) self.new.knows }
         ensures same { (self.new.event_number ≡ self.old.event_number)
@@ -136,6 +163,11 @@ impl<T> EventHand<T> {
     ///
     /// The call that registers is one of the listener's own hand, which knows all that this hand knows. What memory the call
     /// takes, which errors it returns and when it blocks is said at [`Event::listen`]; the queue has been made already.
+    ///
+    /// ```rust
+    /// let mut second = hand.listen(rt, alloc)?;
+    /// hand.observe(&mut second);
+    /// ```
     #[inline(always)]
     pub fn listen<R>(&mut self, rt: &R, alloc: Global) -> Result<EventListener<T, R>, ListenError>
     where
@@ -204,6 +236,14 @@ impl<T> EventHand<T> {
     /// Afterwards this hand knows what the listener's hand saw and did. For a listener that has given its tag the call
     /// returns `false`, because that listener is not in the queue. What else holds is said at
     /// [`Listener::discard`](crate::Listener::discard). Takes no memory. May block until the lock of the event is free.
+    ///
+    /// The listener first learns what this hand knows, so that a law can say what the discard returns:
+    ///
+    /// ```rust
+    /// second.join(hand.fork()?);
+    /// passes_on::<(), Task>();
+    /// Ok(Some(hand.discard(second)))
+    /// ```
     pub fn discard<H: Hold<T>, R: Wait + Clock + Clone>(
         &mut self,
         listener: QueueListener<T, H, R>,
@@ -229,6 +269,15 @@ impl<T> EventHand<T> {
     /// same tag. Afterwards this hand knows what the listener's hand saw and did. For a listener that has given its tag the
     /// call returns `false`, because that listener is not in the queue. Takes no memory. May block until the lock of the
     /// event is free.
+    ///
+    /// Here the caller goes on only if the listener that is dropped was notified:
+    ///
+    /// ```rust
+    /// first.join(hand.fork()?);
+    /// if !hand.drop_listener(first) {
+    ///     return Ok(None);
+    /// }
+    /// ```
     pub fn drop_listener<H: Hold<T>, R: Wait + Clock + Clone>(
         &mut self,
         listener: QueueListener<T, H, R>,
@@ -252,6 +301,15 @@ impl<T> EventHand<T> {
     ///
     /// So what this hand did stands in the history before what the new hand will do. Returns an error if no further share of
     /// the queue can be made. Takes no memory and no lock: the call costs one load and the share.
+    ///
+    /// The new hand goes to another thread, which makes calls with it. Then the listener learns of these calls:
+    ///
+    /// ```rust
+    /// hand.observe(&mut listener);
+    /// let other = hand.fork()?;
+    ///
+    /// listener.join(other);
+    /// ```
     pub fn fork(&mut self) -> Result<Self, AllocError>
         ensures told { IfOk result (λ told. (told.knows ≡ newcomer self.old.knows.seen)
             × (told.table ≡ self.old.table) × (told.event_number ≡ self.old.event_number)) }
@@ -266,6 +324,11 @@ impl<T> EventHand<T> {
     ///
     /// No clause says which of the calls that this hand now knows are the listener's own. The listener has to be of the same
     /// queue. Takes no memory and no lock.
+    ///
+    /// ```rust
+    /// let mut listener = hand.listen(rt, alloc)?;
+    /// hand.observe(&mut listener);
+    /// ```
     pub fn observe<H: Hold<T>, R: Wait + Clock + Clone>(
         &mut self,
         listener: &mut QueueListener<T, H, R>,

@@ -10,6 +10,10 @@ use thiserror::Error;
 ///
 /// Two sources may give the same number, so all events of a program best get their identities from one. No call of a source
 /// takes memory or blocks.
+///
+/// ```rust
+/// let event = Event::with_tag(EventIds::new().next()?);
+/// ```
 #[derive(Debug, Drop)]
 pub struct EventIds {
     next: u64,
@@ -19,12 +23,31 @@ pub struct EventIds {
 ///
 /// An identity cannot be cloned, and an event consumes it. So two events whose identities are of one source have different
 /// numbers.
+///
+/// A type that has an event takes an identity, and makes its event with that identity:
+///
+/// ```rust
+/// pub fn new(id: EventId) -> Self {
+///     Gate {
+///         is_open: AtomicBool::new(false),
+///         opened: Event::new(id),
+///     }
+/// }
+/// ```
 #[derive(Debug, Drop)]
 pub struct EventId {
     number: u64,
 }
 
 /// The error of [`EventIds::next`]: the source has given all its identities.
+///
+/// A function that takes identities from a source propagates this error by `?`:
+///
+/// ```rust
+/// pub fn pair(ids: &mut EventIds) -> Result<(Flag, Flag), IdsUsedUp>
+///
+/// let first = Flag::new(ids.next()?);
+/// ```
 #[derive(Clone, Copy, Debug, PartialEq, Eq, Error)]
 #[error("event identities are used up")]
 pub struct IdsUsedUp;
@@ -62,6 +85,13 @@ impl EventIds {
     ///
     /// Returns [`IdsUsedUp`] exactly if the next number is `u64::MAX`, and leaves the source as it was. Takes no memory and
     /// never blocks.
+    ///
+    /// Two flags get identities of one source, so their events have different numbers:
+    ///
+    /// ```rust
+    /// let first = Flag::new(ids.next()?);
+    /// let second = Flag::new(ids.next()?);
+    /// ```
     pub fn next(&mut self) -> Result<EventId, IdsUsedUp>
         ensures given { IfOk result (λ id. GivesNumber self.old id self.new) }
         ensures refused { OnErr result (IsLastNumber self.old × (self.new ≡ self.old)) }

@@ -37,6 +37,14 @@ use std::time::{Clock, Duration, Instant};
 ///
 /// The listener keeps the allocator and a clone of the runtime value that it was made with, for its own calls and its drop.
 /// [`Listener`] says of every listener what these do, what they allocate and when they block.
+///
+/// A task awaits a listener. The first of both `?` at the end propagates an error of the executor, the second a
+/// [`NeverInserted`]:
+///
+/// ```rust
+/// let listener = event.listen(rt, rt.alloc())?;
+/// Ok(block_on(rt, listener)??)
+/// ```
 pub type EventListener<T, R> = QueueListener<T, Arc<Shared<T>>, R>;
 
 /// A listener that borrows the queue of its event, and so cannot outlive the event. Such a listener needs no share of the
@@ -116,6 +124,16 @@ impl<T, H: Hold<T>, R: Wait + Clock + Clone> QueueListener<T, H, R> {
     ///
     /// So what the hand did stands in the history before what the listener does next. The hand and the listener have to be of
     /// one queue. Takes no memory and never blocks.
+    ///
+    /// Here `other` is the hand of a thread that knew of the listener and has notified all. By the two laws it is proved
+    /// that the discard returns `true`:
+    ///
+    /// ```rust
+    /// listener.join(other);
+    /// listening_is_known::<()>();
+    /// notifying_all_is_known::<()>();
+    /// Ok(listener.discard())
+    /// ```
     pub fn join(&mut self, other: EventHand<T>)
     where
         T: Drop,

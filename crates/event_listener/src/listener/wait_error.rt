@@ -11,6 +11,13 @@ use thiserror::Error;
 ///
 /// [`reason`](WaitError::reason) says the same without the listener, for an error that is propagated. A
 /// [`RecordedListener::discard`](crate::RecordedListener::discard) that fails for memory returns this error too.
+///
+/// ```rust
+/// // A listener that comes back is dropped here, which propagates its notification.
+/// if let Err(WaitError::Memory(_)) = listener.wait() {
+///     return Err(FlagError::Memory);
+/// }
+/// ```
 #[derive(Debug, Drop)]
 pub enum WaitError<L> {
     /// The listener is not in the queue any more, because it has given its tag.
@@ -21,6 +28,13 @@ pub enum WaitError<L> {
 }
 
 /// Why a wait returned neither a tag nor `None`, without the listener.
+///
+/// A variant of the caller's own error keeps the reason, which has no listener:
+///
+/// ```rust
+/// #[error("{0}")]
+/// Wait(#[from] WaitReason),
+/// ```
 #[derive(Clone, Copy, Debug, PartialEq, Eq, Error)]
 pub enum WaitReason {
     /// The listener is not in the queue any more, because it has given its tag.
@@ -34,6 +48,14 @@ pub enum WaitReason {
 
 impl<L> WaitError<L> {
     /// Returns the reason without the listener, which stays in the error. Takes no memory and never blocks.
+    ///
+    /// Here an error of the caller keeps the reason, and the listener is dropped:
+    ///
+    /// ```rust
+    /// fn from(error: WaitError<L>) -> TagError {
+    ///     TagError::Wait(error.reason())
+    /// }
+    /// ```
     pub fn reason(&self) -> WaitReason
         ensures { result ≡ reason_of self.now }
     {

@@ -8,6 +8,15 @@ use super::hand::{Hand, Note};
 use thiserror::Error;
 
 /// Why [`RecordedEvent::close`](crate::RecordedEvent::close) returned no record.
+///
+/// A caller propagates this error by `?`, because the variant below makes an error of the caller from a `CloseError`:
+///
+/// ```rust
+/// #[error("{0}")]
+/// Close(#[from] CloseError),
+///
+/// Ok(flag.close(hands)?)
+/// ```
 #[derive(Clone, Copy, Debug, PartialEq, Eq, Error)]
 pub enum CloseError {
     /// The hands are not those that the event was made with, each once: their numbers are not all those below the event's

@@ -7,6 +7,16 @@ use super::reply::RecordedReply;
 /// An entry of a record: one step of the queue, with the hand that called, the call, and the queue's reply.
 ///
 /// Anybody may write entries, and ask [`replays`](crate::replays) whether they are a history of some queue.
+///
+/// These lines write an entry as a row of a table:
+///
+/// ```rust
+/// match entry.hand {
+///     Some(number) => write!(table, "{number}")?,
+///     None => write!(table, "-")?,
+/// }
+/// writeln!(table, " | {:?} | {:?}", entry.call, entry.reply)?;
+/// ```
 #[derive(Clone, Copy, Debug, PartialEq, Eq, Drop)]
 pub struct Entry<T> {
     /// The number of the hand that made the call, or `None` for the removal of a listener that was dropped.

@@ -2,6 +2,17 @@ use std::alloc::AllocError;
 use thiserror::Error;
 
 /// Why a call of a [`RecordedEvent`](crate::RecordedEvent) failed.
+///
+/// A caller whose notification has to arrive retries:
+///
+/// ```rust
+/// // No listener is notified if memory runs out, so try until it does not.
+/// for _ in rt.forever() {
+///     if flag.set(rt, &mut hand).is_ok() {
+///         break;
+///     }
+/// }
+/// ```
 #[derive(Clone, Copy, Debug, PartialEq, Eq, Error)]
 pub enum RecordError {
     /// There was no memory for the record, the queue or the hand's note, or no clone of the runtime value could be made.

@@ -37,6 +37,19 @@ use std::time::Clock;
 /// last one of a call. So what a waker runs must not call the same event: the call would wait for the lock that its own
 /// thread holds. The record grows by an entry with each step, and never shrinks. No call except `close` and `replays` looks
 /// at older entries.
+///
+/// A flag has such an event, in its field `set`. These lines make the event, notify its listeners, listen to the event,
+/// and close it:
+///
+/// ```rust
+/// let (set, hands) = RecordedEvent::new(alloc, id, hands)?;
+///
+/// self.set.notify(rt, hand, usize::MAX, false, ())?;
+///
+/// let listener = self.set.listen(rt, hand)?;
+///
+/// set.close(hands)
+/// ```
 #[derive(Drop)]
 pub struct RecordedEvent<T: Copy + Eq> {
     id: EventId,
@@ -59,6 +72,10 @@ impl<T: Copy + Eq> RecordedEvent<T> {
     /// The event owns each of the hands, and keeps `alloc` for all later calls. Returns [`RecordError::Memory`] if there is
     /// no memory for the hands, and then the identity is used up. Returns no other error. Takes memory for the hands, and
     /// never blocks.
+    ///
+    /// ```rust
+    /// let (set, hands) = RecordedEvent::new(alloc, id, hands)?;
+    /// ```
     pub fn new(
         alloc: Global,
         id: EventId,
@@ -111,6 +128,15 @@ impl<T: Copy + Eq> RecordedEvent<T> {
     ///
     /// Takes memory for the listener, the entry and the note, and also for the entry of the listener's removal, so that the
     /// drop of the listener needs none. May block until the lock of the event is free.
+    ///
+    /// ```rust
+    /// let listener = self.set.listen(rt, hand)?;
+    /// // A notification that came before the listener was in the queue does not reach it, so look again. The drop of
+    /// // a listener is recorded without a hand.
+    /// if self.is_set() {
+    ///     return Ok(());
+    /// }
+    /// ```
     pub fn listen<R>(
         &self,
         rt: &R,
@@ -144,6 +170,14 @@ impl<T: Copy + Eq> RecordedEvent<T> {
     /// Returns [`RecordError::Memory`] if there is no memory for the entry or the note: no listener is notified, and nothing
     /// is recorded or noted, so a caller whose notification has to arrive retries. Returns no other error. Takes memory for
     /// the entry and the note. May block until the lock of the event is free.
+    ///
+    /// Here all who wait for a flag are notified, after the flag has been set. The last three arguments are the count,
+    /// whether the notification is additional, and the tag:
+    ///
+    /// ```rust
+    /// self.is_set.store(true, Ordering::SeqCst);
+    /// self.set.notify(rt, hand, usize::MAX, false, ())?;
+    /// ```
     pub fn notify<R: Wait>(
         &self,
         rt: &R,
@@ -208,6 +242,13 @@ impl<T: Copy + Eq> RecordedEvent<T> {
     ///
     /// Listeners borrow the event, so none can be alive. Takes no memory and never blocks. The call looks at each hand for
     /// each number, and at each entry for each hand, so its time grows with the number of hands times the number of entries.
+    ///
+    /// A flag that has a recorded event ends in this way, and returns the record of the event:
+    ///
+    /// ```rust
+    /// let RecordedFlag { is_set: _, set } = self;
+    /// set.close(hands)
+    /// ```
     pub fn close(self, hands: Vec<Hand<T>>) -> Result<Record<T>, CloseError>
         requires { All (λ hand. Owns self hand) hands.items }
         ensures missing { ¬ AreAllHands self.hands hands.items

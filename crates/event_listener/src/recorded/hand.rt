@@ -45,6 +45,16 @@ impl<T: Copy> Note<T> {
 /// and never shrink.
 ///
 /// A contract sees a hand as its number, the number of its event, and its notes.
+///
+/// A flag over a recorded event has a hand for each thread. Each thread returns its hand, and the event is closed with all
+/// hands:
+///
+/// ```rust
+/// let (flag, hands) = RecordedFlag::new(alloc, id, hands)?;
+/// // If no thread can be made, the first hand is the first that runs, so none waits for it in vain.
+/// let hands = thread::map_vec(rt, hands, &|hand| take_part(rt, &flag, hand))?;
+/// Ok(flag.close(hands)?)
+/// ```
 #[must_use = "an event is closed with all its hands"]
 #[derive(Drop)]
 pub struct Hand<T> {

@@ -43,6 +43,16 @@ pub enum RecordedPollError {
 ///
 /// This type is no [`Listener`](crate::Listener), because each call takes a hand. A contract sees a recorded listener as its
 /// event, and its key in the queue there.
+///
+/// One hand makes both calls, and notes them:
+///
+/// ```rust
+/// let listener = self.set.listen(rt, hand)?;
+///
+/// if let Err(WaitError::Memory(_)) = listener.wait(hand) {
+///     return Err(RecordError::Memory);
+/// }
+/// ```
 #[must_use = "a listener that is dropped waits for nothing"]
 pub struct RecordedListener<'ev, T: Copy + Eq, R: Wait + Clock + Clone> {
     pub(super) event: &'ev RecordedEvent<T>,
@@ -131,6 +141,14 @@ impl<'ev, T: Copy + Eq, R: Wait + Clock + Clone> RecordedListener<'ev, T, R> {
     ///
     /// The call blocks and takes memory as the wait of [any listener](crate::Listener#waiting) does, and makes room for an
     /// entry and a note before each step.
+    ///
+    /// A wait that is refused memory returns its listener, which is dropped here:
+    ///
+    /// ```rust
+    /// if let Err(WaitError::Memory(_)) = listener.wait(hand) {
+    ///     return Err(RecordError::Memory);
+    /// }
+    /// ```
     pub fn wait(self, hand: &mut Hand<T>) -> Result<T, WaitError<Self>>
         requires { Owns self.event hand.old }
         ensures noted { NotesWait ⊥ self.entry hand.old (as_some result) hand.new }

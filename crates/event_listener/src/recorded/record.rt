@@ -12,6 +12,13 @@ use std::marker::Model;
 ///
 /// The entries *replay*: from an empty queue each call returns its reply, one after another. Each entry without a hand is the
 /// removal of a listener that was dropped.
+///
+/// Here a flag returns the record of its event, once each thread has returned its hand:
+///
+/// ```rust
+/// let hands = thread::map_vec(rt, hands, &|hand| take_part(rt, &flag, hand))?;
+/// Ok(flag.close(hands)?)
+/// ```
 #[derive(Drop)]
 pub struct Record<T: Copy + Eq> {
     entries: Vec<Entry<T>>,
