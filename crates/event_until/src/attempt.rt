@@ -9,6 +9,13 @@ ghost use Rattle.std.specs.Prelude.{◌≡◌, ⊤, IfSome, IfNone};
 ///
 /// A contract knows an implementation by its ghost relations, which may be left out: `succeeds`, between the state before an
 /// attempt, its output and the state after, and `fails`, between the states before and after an attempt that fails.
+///
+/// Whoever opens a gate makes the change first, so that the next attempt of each who waits finds the gate open:
+///
+/// ```rust
+/// self.is_open.store(true, Ordering::SeqCst);
+/// self.opened.notify_relaxed(rt, usize::MAX);
+/// ```
 pub trait Attempt {
     /// What a successful attempt returns.
     type Output;
@@ -24,6 +31,17 @@ pub trait Attempt {
     /// An attempt may be made while a listener is in the queue of the event. So the attempt should not block for what another
     /// thread or task holds that itself waits by an [`Until`](crate::Until), because the notification that the other needs
     /// may have picked this listener. An attempt may notify the event.
+    ///
+    /// This attempt fails until there is a newer value than the waiter has seen:
+    ///
+    /// ```rust
+    /// let latest = *self.watch.latest.lock(self.rt);
+    /// if latest.number <= self.seen {
+    ///     return None;
+    /// }
+    /// self.seen = latest.number;
+    /// Some(latest)
+    /// ```
     fn attempt(&mut self) -> Option<Self::Output>
         ensures succeeded { IfSome result (λ output. succeeds self.old output self.new) }
         ensures failed { IfNone result (fails self.old self.new) };

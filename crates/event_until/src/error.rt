@@ -6,6 +6,17 @@ use thiserror::Error;
 /// Why an [`Until`](crate::Until) returned no output.
 ///
 /// After an error no listener of the `Until` is in the queue, and the `Until` may be waited on or polled again.
+///
+/// This attempt does all that may fail before it takes the baton. Each `?` makes a [`Memory`](UntilError::Memory) of an
+/// `AllocError`:
+///
+/// ```rust
+/// let rt = rt.clone()?;
+/// let share = Arc::try_clone(baton)?;
+/// if baton.is_taken.swap(true, Ordering::SeqCst) {
+///     return Ok(None);
+/// }
+/// ```
 #[derive(Clone, Copy, Debug, PartialEq, Eq, Error)]
 pub enum UntilError {
     /// No listener could be registered: memory ran out, or the queue has given out all its serial numbers, of which each

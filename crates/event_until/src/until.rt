@@ -34,6 +34,12 @@ pub(crate) use turn::Turn;
 ///
 /// An `Until` may be used again after an output or an error, by any of its calls. A contract sees an `Until` as the state of
 /// its attempts, the number of its event, and the standing of the listener that a pending poll left.
+///
+/// Here a call that waits for a gate returns an `Until`, so that its caller may block on it or await it:
+///
+/// ```rust
+/// Until::new(rt, alloc, &self.opened, Pass { gate: self })
+/// ```
 #[must_use = "nothing is attempted before it is waited or polled"]
 #[derive(Drop)]
 pub struct Until<'a, A, R: Wait + Clock + Clone> {
@@ -66,6 +72,15 @@ impl<'a, A: Attempt, R: Wait + Clock + Clone> Until<'a, A, R> {
     /// or polled.
     ///
     /// Takes no memory and never blocks.
+    ///
+    /// ```rust
+    /// let take = Take {
+    ///     baton,
+    ///     rt,
+    ///     failed: 0,
+    /// };
+    /// Until::new(rt, alloc, &baton.freed, take)
+    /// ```
     pub fn new(rt: &'a R, alloc: Global, event: &'a Event<()>, attempt: A) -> Self
         ensures { result ≡ record { attempt = attempt; event_number = event.now; listener = None } }
     {
@@ -83,6 +98,12 @@ impl<'a, A: Attempt, R: Wait + Clock + Clone> Until<'a, A, R> {
     /// A listener that a pending poll left is dropped first. If the first attempt succeeds, the call takes no memory of its
     /// own; else the thread listens and waits, as [`Until`] says. [`UntilError`] says which errors there are and what they
     /// leave.
+    ///
+    /// Here `newer` returns an `Until`, whose output is a value that is newer than the caller has seen:
+    ///
+    /// ```rust
+    /// self.newer(rt, alloc, seen).wait()
+    /// ```
     #[inline(always)]
     pub fn wait(&mut self) -> Result<A::Output, UntilError>
         ensures succeeded { IfOk result (λ output.
