@@ -79,6 +79,18 @@ pub struct NeverInserted;
 /// queue: no wait removes a listener, or takes its tag, before it returns that error. A task that the wait stored in the
 /// queue stays there. A wait on a finished listener returns [`WaitError::NeverInserted`] after step 2, so it can be refused
 /// memory, too.
+///
+/// A function that takes a listener of any kind has a type parameter for it. These lines are the head and the body of a
+/// function that retries a wait once:
+///
+/// ```rust
+/// pub fn tag_by<T, L: Listener<T>>(listener: L, deadline: Instant) -> Result<Option<T>, WaitError<L>>
+///
+/// match listener.wait_deadline(deadline) {
+///     Err(WaitError::Memory(listener)) => listener.wait_deadline(deadline),
+///     answer => answer,
+/// }
+/// ```
 pub trait Listener<T>: Sized {
     ghost standing: { Self → Standing };
 
