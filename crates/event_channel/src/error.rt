@@ -88,7 +88,8 @@ pub enum RecvError {
     /// The channel is closed and empty, so no message will come.
     #[error("the channel is empty and closed")]
     Closed,
-    /// There is no message, and the caller could not wait for one.
+    /// There is no message, and the caller could not wait for one; or `recv_many` found no memory for a message, whether or not one
+    /// waits.
     #[error("{0}")]
     WaitFailed(#[from] WaitError),
 }

@@ -104,7 +104,8 @@ impl<T: Drop> Mutex<T> {
 
     /// Takes the value, if nobody has it and newcomers are not shut out. Returns `None` else.
     ///
-    /// Newcomers are shut out while a waiter starves. The call takes no memory and never blocks.
+    /// Newcomers are shut out while a waiter starves, and while a thread that tried sixteen times in vain puts the queue back. The
+    /// call takes no memory and never blocks.
     ///
     /// While the guard in `taken` is kept, another wait for the value ends at its limit without it, so `in_time` is `false`:
     ///

@@ -124,7 +124,8 @@ impl Semaphore {
     /// Takes one permit, if one is free, the semaphore is open and newcomers are not shut out. The error says which of these
     /// failed.
     ///
-    /// Newcomers are shut out while a waiter starves. The call takes no memory and never blocks.
+    /// Newcomers are shut out while a waiter starves, and while a thread that tried sixteen times in vain puts the queue back. The
+    /// call takes no memory and never blocks.
     #[must_use = "a guard that is dropped at once gives back what it holds"]
     #[inline(always)]
     pub fn try_acquire<'a, R: Wait + Clock>(

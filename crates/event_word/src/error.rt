@@ -7,7 +7,8 @@ pub enum TryAcquireError {
     /// The semaphore is closed, so there never will be a permit.
     #[error("the semaphore is closed")]
     Closed,
-    /// Fewer permits are free than were asked for, or newcomers are shut out because a waiter starves.
+    /// Fewer permits are free than were asked for, or newcomers are shut out: a waiter starves, or a thread could not put the queue
+    /// back in sixteen tries.
     #[error("too few permits are free for newcomers")]
     NoPermits,
 }
