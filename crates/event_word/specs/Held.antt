@@ -8,7 +8,7 @@ use Rattle.event_word.specs.declared.word.rule.Place.{Place}
 module _ {S V : Type 0} where
   -- it is the state of the lock of that name
   abbrev pub IsOf : ℕ → Held S V → Type 0
-  IsOf name held = (held.claim.name ≡ name) × (held.claim.right ≡ 0) × (held.seat.slot ≡ name)
+  IsOf name held = held.word.now.slot.name ≡ name
 
   -- of it and of the number that the thread saw or left last this holds
   abbrev pub HasState : (ℕ → S → Type 0) → Held S V → Type 0

@@ -49,8 +49,8 @@ impl Coming {
     }
 }
 
-/// How a contender started an attempt, as its queue says. Only [`Word::come`](crate::Word::come) and
-/// [`Word::leave`](crate::Word::leave) make an arrival.
+/// How a contender started an attempt, as its queue says. Only [`Held::come`](crate::Held::come) and
+/// [`Held::leave`](crate::Held::leave) make an arrival.
 #[derive(Drop)]
 pub struct Arrival {
     coming: Coming,

@@ -5,6 +5,7 @@ ghost use Rattle.event_word.specs.Word.{Shows, nothing, number_of};
 mod competing;
 pub(crate) mod held;
 mod kept;
+mod looks;
 mod origin;
 mod parked;
 mod permit;

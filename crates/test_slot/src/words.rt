@@ -51,7 +51,7 @@ fn add<R: Wait + Clock>(
     }
     let before = sum.load(Ordering::SeqCst);
     sum.store(before.wrapping_add(much), Ordering::SeqCst);
-    tally.put_back(rt, held);
+    held.put_back(rt);
 }
 
 // Where a round takes long, each thread but the first finds the state out for far longer than it pauses, so it sleeps, and has
@@ -92,7 +92,7 @@ fn a_thread_that_waits_for_the_state_uses_no_processor_time(rt: HostRuntime) -> 
         let (_, held) = tally.take(&rt);
         meeting.wait(&rt);
         thread::sleep(&rt, Duration::from_millis(300));
-        tally.put_back(&rt, held);
+        held.put_back(&rt);
     };
     let adds = || {
         meeting.wait(&rt);

@@ -1,11 +1,10 @@
 //! The counts of a read-write lock.
 ghost use Rattle.std.specs.Prelude.{◌≡◌, ◌+◌, ◌<◌, ◌≤◌};
 ghost use Rattle.event_word.specs.Queues.{IsExclusive, NobodyWaitsInVain};
-ghost use Rattle.event_word.specs.Held.{HasState, IsOf};
+ghost use Rattle.event_word.specs.Held.{HasState};
 
 use super::queues::Queues;
-use super::share::Out;
-use crate::word::Word;
+use crate::word::Held;
 use event_wait::Task;
 
 /// The counts of a read-write lock, all at one moment: how many readers and writers have the value, and how many wait for it.
@@ -25,15 +24,14 @@ pub struct RwLockCounts {
     pub writers_waiting: usize,
 }
 
-impl<V> Word<Queues<Task>, V> {
+impl<'a, V> Held<'a, Queues<Task>, V> {
     /// Returns the counts of the lock by this number, with the queues out, which stay as they are.
-    pub fn counted(&self, held: &mut Out<'_, V>, number: u64) -> RwLockCounts
-        requires seat { IsOf self.now.slot.name held.old }
-        requires stands { HasState (λ n q. (n ≡ number) × NobodyWaitsInVain n q) held.old }
-        ensures seat { IsOf self.now.slot.name held.new }
-        ensures same { (held.new.claim.state ≡ held.old.claim.state)
-            × (held.new.seat.view ≡ held.old.seat.view) }
-        ensures alone { HasState IsExclusive held.new }
+    pub fn counted(&mut self, number: u64) -> RwLockCounts
+        requires stands { HasState (λ n q. (n ≡ number) × NobodyWaitsInVain n q) self.old }
+        ensures of { self.new.word ≡ self.old.word }
+        ensures same { (self.new.claim.state ≡ self.old.claim.state)
+            × (self.new.seat.view ≡ self.old.seat.view) }
+        ensures alone { HasState IsExclusive self.new }
         ensures reader_waits { 0 < result.readers_waiting
             → 0 < result.writers + result.writers_let_in + result.writers_waiting }
         ensures writer_waits { 0 < result.writers_waiting
@@ -42,6 +40,6 @@ impl<V> Word<Queues<Task>, V> {
             → result.writers + result.writers_let_in ≡ 0 }
         ensures one { result.writers + result.writers_let_in ≤ 1 }
     {
-        held.claim.state_mut().counts(number)
+        self.claim.state_mut().counts(number)
     }
 }

@@ -3,69 +3,65 @@ ghost use Rattle.std.specs.Prelude.{◌≡◌, IfOk, IfSome, IsTrue, OnErr};
 ghost use Rattle.event_wait.specs.Joining.{IsSettled, UnlessWaits, gained};
 ghost use Rattle.event_wait.specs.Line.{IsNotIn, IsNotInUnlessWaits, Looked, left_by};
 ghost use Rattle.event_word.specs.Queues.{Admits, CountsMore, IsExclusive, given, if_any};
-ghost use Rattle.event_word.specs.Held.{HasState, IsOf};
+ghost use Rattle.event_word.specs.Held.{HasState};
 ghost use Rattle.event_word.specs.Word.{number_of};
 ghost use Rattle.event_wait.specs.Attempted.{Attempts, OnDone, OnUndone, Stores};
 
 use super::queues::Queues;
 use super::right::Right;
 use super::share::{Grant, Out};
-use crate::word::{ONE, Word};
+use crate::word::{Held, ONE};
 use event_queue::{Key, ListenError, RegisterResult, TaskExchange};
 use event_wait::{Attempted, LockError, Task};
 use std::alloc::AllocError;
 use std::sync::Wait;
 
-impl<V> Word<Queues<Task>, V> {
+impl<'a, V> Held<'a, Queues<Task>, V> {
     // Looks whether this waiter was let in; a waiter that was not stores its task.
     fn look_waiting<K: Right<Task>, C, X: TaskExchange<Task, C>>(
-        &self,
-        held: &mut Out<'_, V>,
+        &mut self,
         key: Key,
         exchange: &X,
         on: &mut C,
     ) -> RegisterResult<()>
-        requires seat { IsOf self.now.slot.name held.old }
-        requires alone { HasState IsExclusive held.old }
-        ensures seat { IsOf self.now.slot.name held.new }
-        ensures number { held.new.seat.view ≡ held.old.seat.view }
-        ensures alone { HasState IsExclusive held.new }
-        ensures let_in { left_by result ≡ 1 → HasState (Admits K.COUNTS) held.new }
+        requires alone { HasState IsExclusive self.old }
+        ensures of { self.new.word ≡ self.old.word }
+        ensures number { self.new.seat.view ≡ self.old.seat.view }
+        ensures alone { HasState IsExclusive self.new }
+        ensures let_in { left_by result ≡ 1 → HasState (Admits K.COUNTS) self.new }
         ensures gone { HasState (λ _ q. IsNotInUnlessWaits result key (K.line q))
-            held.new }
+            self.new }
         ensures looked { Looked (X.exchanged exchange.now) on.old result on.new }
     {
-        K::look(held.claim.state_mut(), key, exchange, on)
+        K::look(self.claim.state_mut(), key, exchange, on)
     }
 
     /// Attempts for a waiter, with the queues out: gives the waiter its right if it was let in, and else has it wait on.
     ///
     /// Returns [`Attempted::Done`] with the right, or [`Attempted::Waits`] with the key for a waiter that stores its task. A
-    /// waiter that is in the queue no more attempts as a newcomer, by [`come_newly`](Word::come_newly).
+    /// waiter that is in the queue no more attempts as a newcomer, by [`come_newly`](Held::come_newly).
     pub fn come_waiting<K: Right<Task>, C, X: TaskExchange<Task, C>, R: Wait>(
-        &self,
+        &mut self,
         rt: &R,
-        held: &mut Out<'_, V>,
         key: Key,
         exchange: &X,
         on: &mut C,
-    ) -> Attempted<Grant<'_, K, V>, LockError>
-        requires seat { IsOf self.now.slot.name held.old }
-        requires alone { HasState IsExclusive held.old }
-        ensures seat { IsOf self.now.slot.name held.new }
-        ensures alone { HasState IsExclusive held.new }
-        ensures own { OnDone result (λ grant. grant.claim.name ≡ self.now.slot.name) }
-        ensures counts { CountsMore (if_any (gained result) K.COUNTS) held.old.seat.view
-            held.new.seat.view }
+    ) -> Attempted<Grant<'a, K, V>, LockError>
+        requires alone { HasState IsExclusive self.old }
+        ensures of { self.new.word ≡ self.old.word }
+        ensures alone { HasState IsExclusive self.new }
+        ensures own { OnDone result (λ grant. grant.claim.name ≡ self.old.word.now.slot.name) }
+        ensures counts { CountsMore (if_any (gained result) K.COUNTS) self.old.seat.view
+            self.new.seat.view }
         ensures exchanged { Attempts (X.exchanged exchange.now) on.old result on.new }
         ensures settled { IsSettled result }
         ensures gone { UnlessWaits result
-            (HasState (λ _ q. IsNotIn key (K.line q)) held.new) }
+            (HasState (λ _ q. IsNotIn key (K.line q)) self.new) }
     {
-        match self.look_waiting::<K, C, X>(held, key, exchange, on) {
-            RegisterResult::Notified(()) => Attempted::Done(self.let_in(rt, held)),
+        match self.look_waiting::<K, C, X>(key, exchange, on) {
+            RegisterResult::Notified(()) => Attempted::Done(self.let_in(rt)),
             RegisterResult::Registered => Attempted::Waits(key),
-            RegisterResult::NeverInserted => self.come_newly(rt, held, exchange, on),
+            RegisterResult::NeverInserted => self.come_newly(rt, exchange, on),
         }
     }
 
@@ -76,30 +72,28 @@ impl<V> Word<Queues<Task>, V> {
     /// [`Attempted::Refused`] if the newcomer can't wait: for memory, for serial numbers, or because the lock can count no more
     /// readers. A newcomer that waits may allocate.
     pub fn come_newly<K: Right<Task>, C, X: TaskExchange<Task, C>, R: Wait>(
-        &self,
+        &mut self,
         rt: &R,
-        held: &mut Out<'_, V>,
         exchange: &X,
         on: &mut C,
-    ) -> Attempted<Grant<'_, K, V>, LockError>
-        requires seat { IsOf self.now.slot.name held.old }
-        requires alone { HasState IsExclusive held.old }
-        ensures seat { IsOf self.now.slot.name held.new }
-        ensures alone { HasState IsExclusive held.new }
-        ensures own { OnDone result (λ grant. grant.claim.name ≡ self.now.slot.name) }
-        ensures counts { CountsMore (if_any (gained result) K.COUNTS) held.old.seat.view
-            held.new.seat.view }
+    ) -> Attempted<Grant<'a, K, V>, LockError>
+        requires alone { HasState IsExclusive self.old }
+        ensures of { self.new.word ≡ self.old.word }
+        ensures alone { HasState IsExclusive self.new }
+        ensures own { OnDone result (λ grant. grant.claim.name ≡ self.old.word.now.slot.name) }
+        ensures counts { CountsMore (if_any (gained result) K.COUNTS) self.old.seat.view
+            self.new.seat.view }
         ensures exchanged { Attempts (X.exchanged exchange.now) on.old result on.new }
         ensures settled { IsSettled result }
-        ensures stays { UnlessWaits result (held.new.claim.state ≡ held.old.claim.state) }
+        ensures stays { UnlessWaits result (self.new.claim.state ≡ self.old.claim.state) }
         ensures waits { OnUndone result (HasState (λ n _. HasState (λ _ q. K.is_open n q
-            → K.is_full n q) held.old) held.new) }
+            → K.is_full n q) self.old) self.new) }
     {
-        let seen = match self.count_or_see(rt, held) {
+        let seen = match self.count_or_see(rt) {
             Ok(grant) => return Attempted::Done(grant),
             Err(seen) => seen,
         };
-        match self.wait_seeing::<K, C, X>(held, seen, exchange, on) {
+        match self.wait_seeing::<K, C, X>(seen, exchange, on) {
             Ok(key) => Attempted::Waits(key),
             Err(error) => Attempted::Refused(error),
         }
@@ -107,22 +101,20 @@ impl<V> Word<Queues<Task>, V> {
 
     // Has a newcomer wait in its queue, if it can be counted later.
     fn wait_seeing<K: Right<Task>, C, X: TaskExchange<Task, C>>(
-        &self,
-        held: &mut Out<'_, V>,
+        &mut self,
         seen: u64,
         exchange: &X,
         on: &mut C,
     ) -> Result<Key, LockError>
-        requires seat { IsOf self.now.slot.name held.old }
-        requires alone { HasState (λ n q. (n ≡ number_of seen) × IsExclusive n q) held.old }
-        ensures seat { IsOf self.now.slot.name held.new }
-        ensures number { held.new.seat.view ≡ held.old.seat.view }
-        ensures alone { HasState IsExclusive held.new }
+        requires alone { HasState (λ n q. (n ≡ number_of seen) × IsExclusive n q) self.old }
+        ensures of { self.new.word ≡ self.old.word }
+        ensures number { self.new.seat.view ≡ self.old.seat.view }
+        ensures alone { HasState IsExclusive self.new }
         ensures waits { IfOk result (λ _. Stores (X.exchanged exchange.now) on.old on.new) }
         ensures refused { OnErr result ((on.new ≡ on.old)
-            × (held.new.claim.state ≡ held.old.claim.state)) }
+            × (self.new.claim.state ≡ self.old.claim.state)) }
     {
-        let queues = held.claim.state_mut();
+        let queues = self.claim.state_mut();
         if let Err(AllocError) = queues.make_room() {
             return Err(LockError::Listen(ListenError::Memory));
         }
@@ -130,37 +122,34 @@ impl<V> Word<Queues<Task>, V> {
     }
 
     /// Removes a waiter from its queue, and returns whether it was let in.
-    pub fn leave<K: Right<Task>>(&self, held: &mut Out<'_, V>, key: Key) -> bool
-        requires seat { IsOf self.now.slot.name held.old }
-        requires alone { HasState IsExclusive held.old }
-        ensures seat { IsOf self.now.slot.name held.new }
-        ensures number { held.new.seat.view ≡ held.old.seat.view }
-        ensures alone { HasState IsExclusive held.new }
-        ensures let_in { IsTrue result → HasState (Admits K.COUNTS) held.new }
-        ensures gone { HasState (λ _ q. IsNotIn key (K.line q)) held.new }
+    pub fn leave<K: Right<Task>>(&mut self, key: Key) -> bool
+        requires alone { HasState IsExclusive self.old }
+        ensures of { self.new.word ≡ self.old.word }
+        ensures number { self.new.seat.view ≡ self.old.seat.view }
+        ensures alone { HasState IsExclusive self.new }
+        ensures let_in { IsTrue result → HasState (Admits K.COUNTS) self.new }
+        ensures gone { HasState (λ _ q. IsNotIn key (K.line q)) self.new }
     {
-        K::leave(held.claim.state_mut(), key)
+        K::leave(self.claim.state_mut(), key)
     }
 
     /// Has a waiter leave its queue, and returns its right if it was let in or a newcomer would get it now, or else `None`.
     pub fn come_or_leave<K: Right<Task>, R: Wait>(
-        &self,
+        &mut self,
         rt: &R,
-        held: &mut Out<'_, V>,
         key: Key,
-    ) -> Option<Grant<'_, K, V>>
-        requires seat { IsOf self.now.slot.name held.old }
-        requires alone { HasState IsExclusive held.old }
-        ensures seat { IsOf self.now.slot.name held.new }
-        ensures alone { HasState IsExclusive held.new }
-        ensures own { IfSome result (λ grant. grant.claim.name ≡ self.now.slot.name) }
-        ensures counts { CountsMore (if_any (given result) K.COUNTS) held.old.seat.view
-            held.new.seat.view }
-        ensures gone { HasState (λ _ q. IsNotIn key (K.line q)) held.new }
+    ) -> Option<Grant<'a, K, V>>
+        requires alone { HasState IsExclusive self.old }
+        ensures of { self.new.word ≡ self.old.word }
+        ensures alone { HasState IsExclusive self.new }
+        ensures own { IfSome result (λ grant. grant.claim.name ≡ self.old.word.now.slot.name) }
+        ensures counts { CountsMore (if_any (given result) K.COUNTS) self.old.seat.view
+            self.new.seat.view }
+        ensures gone { HasState (λ _ q. IsNotIn key (K.line q)) self.new }
     {
-        if self.leave::<K>(held, key) {
-            return Some(self.let_in(rt, held));
+        if self.leave::<K>(key) {
+            return Some(self.let_in(rt));
         }
-        self.count_newcomer(rt, held)
+        self.count_newcomer(rt)
     }
 }

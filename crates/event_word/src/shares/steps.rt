@@ -4,7 +4,7 @@ ghost use Rattle.event_word.specs.Count.{IsCount, readers_of, writers_of};
 ghost use Rattle.event_wait.specs.declared.lock.task.Task.{Task};
 ghost use Rattle.event_word.specs.Leaving.{IfGoing, IfTaking, becomes};
 ghost use Rattle.event_word.specs.Queues.{Admits, CountsAsReader, CountsAsWriter, CountsMore, CountsOne, IsExclusive, MayUpgrade, Recounts, RecountsAndTakes, given, if_any, lock_rules};
-ghost use Rattle.event_word.specs.Held.{HasState, IsOf};
+ghost use Rattle.event_word.specs.Held.{HasState};
 ghost use Rattle.event_word.specs.Word.{EasesFrom, nothing, number_of};
 
 use super::number::{self, Leaving, READER, WRITER};
@@ -14,7 +14,7 @@ use super::right::Right;
 use super::share::{Grant, Out, Share};
 use super::writing::Writing;
 use crate::wakes::Wakes;
-use crate::word::{Kept, ONE, Seat, Word};
+use crate::word::{Held, Kept, ONE, Seat, Word};
 use event_wait::Task;
 use std::sync::Wait;
 
@@ -63,8 +63,8 @@ impl<V> Word<Queues<Task>, V> {
         ensures { IfSome result (λ grant. grant.claim.name ≡ self.now.slot.name) }
     {
         let (_, mut held) = self.take(rt);
-        let grant = self.count_newcomer(rt, &mut held);
-        self.put_back(rt, held);
+        let grant = held.count_newcomer(rt);
+        held.put_back(rt);
         grant
     }
 
@@ -89,7 +89,7 @@ impl<V> Word<Queues<Task>, V> {
     /// The last reader that leaves lets in the first writer; the writer that leaves lets in all readers that wait, or else the
     /// first writer. May block until the queues are at home only to wake more than a few tasks.
     #[inline(always)]
-    pub fn end<K: Right<Task>, R: Wait>(&self, rt: &R, grant: Grant<'_, K, V>)
+    pub fn end<'a, K: Right<Task>, R: Wait>(&'a self, rt: &R, grant: Grant<'a, K, V>)
         requires { grant.claim.name ≡ self.now.slot.name }
     {
         let (seen, grant, mut seat) = self.look_holding(grant);
@@ -120,10 +120,10 @@ impl<V> Word<Queues<Task>, V> {
     // The word counts a holder as long as it has its right, so each word found tells how it is once the holder has left.
     #[cold]
     #[inline(never)]
-    fn end_slowly<K: Right<Task>, R: Wait>(
-        &self,
+    fn end_slowly<'a, K: Right<Task>, R: Wait>(
+        &'a self,
         rt: &R,
-        grant: Grant<'_, K, V>,
+        grant: Grant<'a, K, V>,
         seat: Seat,
         word: u64,
     )
@@ -149,7 +149,7 @@ impl<V> Word<Queues<Task>, V> {
     // Ends a right by this step, and lets in the waiters that are next if the step takes the queues out. An error has the
     // right, the seat and the word, where that is another.
     fn go<'a, K: Right<Task>, R: Wait>(
-        &self,
+        &'a self,
         rt: &R,
         grant: Grant<'a, K, V>,
         mut seat: Seat,
@@ -173,7 +173,7 @@ impl<V> Word<Queues<Task>, V> {
             },
             Leaving::Taking(new) => match self.turn_out(grant.into_claim(), seat, seen, new) {
                 Ok(held) => {
-                    self.put_back(rt, held);
+                    held.put_back(rt);
                     Ok(())
                 }
                 Err((claim, seat, found)) => Err((Grant::new(claim), seat, found)),
@@ -274,92 +274,84 @@ impl<V> Word<Queues<Task>, V> {
         }
         unreachable!()
     }
+}
 
+impl<'a, V> Held<'a, Queues<Task>, V> {
     /// Returns the word with the queues out. The call costs one load.
-    pub fn look_alone(&self, held: &mut Out<'_, V>) -> u64
-        requires seat { IsOf self.now.slot.name held.old }
-        requires alone { HasState IsExclusive held.old }
-        ensures seat { IsOf self.now.slot.name held.new }
-        ensures state { held.new.claim.state ≡ held.old.claim.state }
+    pub fn look_alone(&mut self) -> u64
+        requires alone { HasState IsExclusive self.old }
+        ensures of { self.new.word ≡ self.old.word }
+        ensures state { self.new.claim.state ≡ self.old.claim.state }
         ensures word { (result % 2 ≡ 1) × IsCount (number_of result) }
-        ensures number { held.new.seat.view.number ≡ Some (number_of result) }
+        ensures number { self.new.seat.view.number ≡ Some (number_of result) }
         ensures alone { HasState (λ n q. (n ≡ number_of result)
-            × IsExclusive n q) held.new }
-        ensures eases { EasesFrom (lock_rules {W = Task}) held.old.seat.view.number (number_of result) }
+            × IsExclusive n q) self.new }
+        ensures eases { EasesFrom (lock_rules {W = Task}) self.old.seat.view.number (number_of result) }
     {
-        held.look(self)
+        self.look()
     }
 
     // Looks as `look_alone` does, by a holder, which the word counts, and returns its right, too.
-    fn look_alone_holding<'a, K: Right<Task>>(
-        &self,
-        held: &mut Out<'_, V>,
-        grant: Grant<'a, K, V>,
-    ) -> (u64, Grant<'a, K, V>)
-        requires seat { IsOf self.now.slot.name held.old }
-        requires alone { HasState IsExclusive held.old }
-        requires own { grant.claim.name ≡ self.now.slot.name }
-        ensures seat { IsOf self.now.slot.name held.new }
-        ensures state { held.new.claim.state ≡ held.old.claim.state }
+    fn look_alone_holding<'g, K: Right<Task>>(
+        &mut self,
+        grant: Grant<'g, K, V>,
+    ) -> (u64, Grant<'g, K, V>)
+        requires alone { HasState IsExclusive self.old }
+        requires own { grant.claim.name ≡ self.old.word.now.slot.name }
+        ensures of { self.new.word ≡ self.old.word }
+        ensures state { self.new.claim.state ≡ self.old.claim.state }
         ensures word { (result.0 % 2 ≡ 1) × CountsOne K.RIGHT result.0 }
-        ensures number { held.new.seat.view.number ≡ Some (number_of result.0) }
+        ensures number { self.new.seat.view.number ≡ Some (number_of result.0) }
         ensures alone { HasState (λ n q. (n ≡ number_of result.0)
-            × IsExclusive n q) held.new }
-        ensures eases { EasesFrom (lock_rules {W = Task}) held.old.seat.view.number
+            × IsExclusive n q) self.new }
+        ensures eases { EasesFrom (lock_rules {W = Task}) self.old.seat.view.number
             (number_of result.0) }
-        ensures own { result.1.claim.name ≡ self.now.slot.name }
+        ensures own { result.1.claim.name ≡ self.old.word.now.slot.name }
     {
-        let (seen, claim) = held.look_as(self, grant.into_claim());
+        let (seen, claim) = self.look_as(grant.into_claim());
         (seen, Grant::new(claim))
     }
 
     // Returns whether a newcomer may be admitted.
-    fn may_come<K: Right<Task>>(&self, held: &mut Out<'_, V>, seen: u64) -> bool
-        requires seat { IsOf self.now.slot.name held.old }
-        requires alone { HasState (λ n q. (n ≡ number_of seen) × IsExclusive n q) held.old }
-        ensures seat { IsOf self.now.slot.name held.new }
-        ensures same { (held.new.claim.state ≡ held.old.claim.state)
-            × (held.new.seat.view ≡ held.old.seat.view) }
+    fn may_come<K: Right<Task>>(&mut self, seen: u64) -> bool
+        requires alone { HasState (λ n q. (n ≡ number_of seen) × IsExclusive n q) self.old }
+        ensures of { self.new.word ≡ self.old.word }
+        ensures same { (self.new.claim.state ≡ self.old.claim.state)
+            × (self.new.seat.view ≡ self.old.seat.view) }
         ensures yes { IsTrue result → HasState (λ n q. K.is_open n q × IsExclusive n q
-            × Admits K.COUNTS n q) held.new }
+            × Admits K.COUNTS n q) self.new }
         ensures no { IsFalse result
-            → HasState (λ n q. K.is_open n q → K.is_full n q) held.new }
+            → HasState (λ n q. K.is_open n q → K.is_full n q) self.new }
     {
-        K::may_come(held.claim.state_mut(), seen / ONE)
+        K::may_come(self.claim.state_mut(), seen / ONE)
     }
 
     // Returns whether the reader that asks may write from here on.
-    fn may_upgrade(&self, held: &mut Out<'_, V>, seen: u64) -> bool
-        requires seat { IsOf self.now.slot.name held.old }
-        requires alone { HasState (λ n q. (n ≡ number_of seen) × IsExclusive n q) held.old }
-        ensures seat { IsOf self.now.slot.name held.new }
-        ensures same { (held.new.claim.state ≡ held.old.claim.state)
-            × (held.new.seat.view ≡ held.old.seat.view) }
+    fn may_upgrade(&mut self, seen: u64) -> bool
+        requires alone { HasState (λ n q. (n ≡ number_of seen) × IsExclusive n q) self.old }
+        ensures of { self.new.word ≡ self.old.word }
+        ensures same { (self.new.claim.state ≡ self.old.claim.state)
+            × (self.new.seat.view ≡ self.old.seat.view) }
         ensures yes { IsTrue result → HasState (λ n q. MayUpgrade n q × (number_of seen ≡ 2)
-            × IsExclusive 1 q) held.new }
-        ensures no { IsFalse result → HasState (λ n q. MayUpgrade n q → ⊥) held.new }
+            × IsExclusive 1 q) self.new }
+        ensures no { IsFalse result → HasState (λ n q. MayUpgrade n q → ⊥) self.new }
     {
-        held.claim.state_mut().may_upgrade(seen / ONE)
+        self.claim.state_mut().may_upgrade(seen / ONE)
     }
 
     /// Attempts for a newcomer with the queues out, and returns its right, or `None` if the newcomer may not be admitted now.
-    pub fn count_newcomer<K: Right<Task>, R: Wait>(
-        &self,
-        rt: &R,
-        held: &mut Out<'_, V>,
-    ) -> Option<Grant<'_, K, V>>
-        requires seat { IsOf self.now.slot.name held.old }
-        requires alone { HasState IsExclusive held.old }
-        ensures seat { IsOf self.now.slot.name held.new }
-        ensures state { held.new.claim.state ≡ held.old.claim.state }
-        ensures alone { HasState IsExclusive held.new }
-        ensures own { IfSome result (λ grant. grant.claim.name ≡ self.now.slot.name) }
-        ensures counts { CountsMore (if_any (given result) K.COUNTS) held.old.seat.view
-            held.new.seat.view }
+    pub fn count_newcomer<K: Right<Task>, R: Wait>(&mut self, rt: &R) -> Option<Grant<'a, K, V>>
+        requires alone { HasState IsExclusive self.old }
+        ensures of { self.new.word ≡ self.old.word }
+        ensures state { self.new.claim.state ≡ self.old.claim.state }
+        ensures alone { HasState IsExclusive self.new }
+        ensures own { IfSome result (λ grant. grant.claim.name ≡ self.old.word.now.slot.name) }
+        ensures counts { CountsMore (if_any (given result) K.COUNTS) self.old.seat.view
+            self.new.seat.view }
         ensures refused { result ≡ None → HasState (λ n q. K.is_open n q
-            → K.is_full n q) held.new }
+            → K.is_full n q) self.new }
     {
-        match self.count_or_see(rt, held) {
+        match self.count_or_see(rt) {
             Ok(grant) => Some(grant),
             Err(_) => None,
         }
@@ -367,28 +359,26 @@ impl<V> Word<Queues<Task>, V> {
 
     // Attempts for a newcomer with the queues out. An error is the word by which it may not be admitted.
     pub(super) fn count_or_see<K: Right<Task>, R: Wait>(
-        &self,
+        &mut self,
         rt: &R,
-        held: &mut Out<'_, V>,
-    ) -> Result<Grant<'_, K, V>, u64>
-        requires seat { IsOf self.now.slot.name held.old }
-        requires alone { HasState IsExclusive held.old }
-        ensures seat { IsOf self.now.slot.name held.new }
-        ensures state { held.new.claim.state ≡ held.old.claim.state }
-        ensures alone { HasState IsExclusive held.new }
-        ensures own { IfOk result (λ grant. grant.claim.name ≡ self.now.slot.name) }
+    ) -> Result<Grant<'a, K, V>, u64>
+        requires alone { HasState IsExclusive self.old }
+        ensures of { self.new.word ≡ self.old.word }
+        ensures state { self.new.claim.state ≡ self.old.claim.state }
+        ensures alone { HasState IsExclusive self.new }
+        ensures own { IfOk result (λ grant. grant.claim.name ≡ self.old.word.now.slot.name) }
         ensures counts { MatchResult result
-            (λ _. CountsMore K.COUNTS held.old.seat.view held.new.seat.view)
-            (λ _. CountsMore 0 held.old.seat.view held.new.seat.view) }
+            (λ _. CountsMore K.COUNTS self.old.seat.view self.new.seat.view)
+            (λ _. CountsMore 0 self.old.seat.view self.new.seat.view) }
         ensures refused { IfErr result (λ seen. HasState (λ n q. (n ≡ number_of seen)
-            × (K.is_open n q → K.is_full n q)) held.new) }
+            × (K.is_open n q → K.is_full n q)) self.new) }
     {
         for _ in rt.forever() {
-            let seen = self.look_alone(held);
-            if !self.may_come::<K>(held, seen) {
+            let seen = self.look_alone();
+            if !self.may_come::<K>(seen) {
                 return Err(seen);
             }
-            if let Some(grant) = self.admit_with(held, seen) {
+            if let Some(grant) = self.admit_with(seen) {
                 return Ok(grant);
             }
         }
@@ -396,24 +386,19 @@ impl<V> Word<Queues<Task>, V> {
     }
 
     // Admits a newcomer with the queues out, if the word is as it was seen.
-    fn admit_with<K: Right<Task>>(
-        &self,
-        held: &mut Out<'_, V>,
-        seen: u64,
-    ) -> Option<Grant<'_, K, V>>
-        requires seat { IsOf self.now.slot.name held.old }
+    fn admit_with<K: Right<Task>>(&mut self, seen: u64) -> Option<Grant<'a, K, V>>
         requires word { (seen % 2 ≡ 1) × IsCount (number_of seen) }
-        requires admits { HasState (λ n q. (n ≡ number_of seen) × Admits K.COUNTS n q) held.old }
-        ensures seat { IsOf self.now.slot.name held.new }
-        ensures state { held.new.claim.state ≡ held.old.claim.state }
-        ensures alone { IfSome result (λ _. HasState IsExclusive held.new) }
-        ensures own { IfSome result (λ grant. grant.claim.name ≡ self.now.slot.name) }
-        ensures counts { IfSome result (λ _. held.new.seat.view.number
+        requires admits { HasState (λ n q. (n ≡ number_of seen) × Admits K.COUNTS n q) self.old }
+        ensures of { self.new.word ≡ self.old.word }
+        ensures state { self.new.claim.state ≡ self.old.claim.state }
+        ensures alone { IfSome result (λ _. HasState IsExclusive self.new) }
+        ensures own { IfSome result (λ grant. grant.claim.name ≡ self.old.word.now.slot.name) }
+        ensures counts { IfSome result (λ _. self.new.seat.view.number
             ≡ Some (number_of seen + K.COUNTS)) }
-        ensures none { result ≡ None → held.new.seat.view ≡ held.old.seat.view }
+        ensures none { result ≡ None → self.new.seat.view ≡ self.old.seat.view }
     {
         let new = K::word_with(seen);
-        let (made, claim) = held.turn(self, self.slot.claim(), seen, new);
+        let (made, claim) = self.turn(self.word.slot.claim(), seen, new);
         if made {
             return Some(Grant::new(claim));
         }
@@ -422,40 +407,40 @@ impl<V> Word<Queues<Task>, V> {
     }
 
     // Looks at the word with the queues out, of which so many waiters were let in, and have left.
-    fn look_letting_in(&self, held: &mut Out<'_, V>, more: u64) -> u64
-        requires seat { IsOf self.now.slot.name held.old }
-        requires admits { HasState (Admits more) held.old }
-        ensures seat { IsOf self.now.slot.name held.new }
-        ensures state { held.new.claim.state ≡ held.old.claim.state }
+    fn look_letting_in(&mut self, more: u64) -> u64
+        requires admits { HasState (Admits more) self.old }
+        ensures of { self.new.word ≡ self.old.word }
+        ensures state { self.new.claim.state ≡ self.old.claim.state }
         ensures word { (result % 2 ≡ 1) × IsCount (number_of result) }
-        ensures number { held.new.seat.view.number ≡ Some (number_of result) }
+        ensures number { self.new.seat.view.number ≡ Some (number_of result) }
         ensures admits { HasState (λ n q. (n ≡ number_of result)
-            × Admits more (number_of result) q) held.new }
-        ensures eases { EasesFrom (lock_rules {W = Task}) held.old.seat.view.number (number_of result) }
+            × Admits more (number_of result) q) self.new }
+        ensures eases { EasesFrom (lock_rules {W = Task}) self.old.seat.view.number (number_of result) }
     {
         let _more = more;
-        held.look(self)
+        self.look()
     }
 
     /// Returns the right of a waiter that was let in, and has left its queue, and has the number count it.
-    pub fn let_in<K: Right<Task>, R: Wait>(&self, rt: &R, held: &mut Out<'_, V>) -> Grant<'_, K, V>
-        requires seat { IsOf self.now.slot.name held.old }
-        requires admits { HasState (Admits K.COUNTS) held.old }
-        ensures seat { IsOf self.now.slot.name held.new }
-        ensures state { held.new.claim.state ≡ held.old.claim.state }
-        ensures alone { HasState IsExclusive held.new }
-        ensures own { result.claim.name ≡ self.now.slot.name }
-        ensures counts { CountsMore K.COUNTS held.old.seat.view held.new.seat.view }
+    pub fn let_in<K: Right<Task>, R: Wait>(&mut self, rt: &R) -> Grant<'a, K, V>
+        requires admits { HasState (Admits K.COUNTS) self.old }
+        ensures of { self.new.word ≡ self.old.word }
+        ensures state { self.new.claim.state ≡ self.old.claim.state }
+        ensures alone { HasState IsExclusive self.new }
+        ensures own { result.claim.name ≡ self.old.word.now.slot.name }
+        ensures counts { CountsMore K.COUNTS self.old.seat.view self.new.seat.view }
     {
         for _ in rt.forever() {
-            let seen = self.look_letting_in(held, K::COUNTS);
-            if let Some(grant) = self.admit_with(held, seen) {
+            let seen = self.look_letting_in(K::COUNTS);
+            if let Some(grant) = self.admit_with(seen) {
                 return grant;
             }
         }
         unreachable!()
     }
+}
 
+impl<V> Word<Queues<Task>, V> {
     /// Turns the right of the only reader into a right to write, if no other reader was let in and no writer waits.
     ///
     /// An error has the right to read, which is unchanged. May block until the queues are at home, but not for other readers.
@@ -478,42 +463,42 @@ impl<V> Word<Queues<Task>, V> {
             grant = Grant::new(claim);
         }
         let (_, mut held) = self.take(rt);
-        let upgraded = self.upgrade(rt, &mut held, grant);
-        self.put_back(rt, held);
+        let upgraded = held.upgrade(rt, grant);
+        held.put_back(rt);
         upgraded
     }
+}
 
+impl<'a, V> Held<'a, Queues<Task>, V> {
     // Upgrades with the queues out.
-    fn upgrade<'a, R: Wait>(
-        &self,
+    fn upgrade<'g, R: Wait>(
+        &mut self,
         rt: &R,
-        held: &mut Out<'_, V>,
-        grant: Grant<'a, Reading, V>,
-    ) -> Result<Grant<'a, Writing, V>, Grant<'a, Reading, V>>
-        requires seat { IsOf self.now.slot.name held.old }
-        requires alone { HasState IsExclusive held.old }
-        requires own { grant.claim.name ≡ self.now.slot.name }
-        ensures seat { IsOf self.now.slot.name held.new }
-        ensures state { held.new.claim.state ≡ held.old.claim.state }
-        ensures alone { HasState IsExclusive held.new }
-        ensures own { MatchResult result (λ writes. writes.claim.name ≡ self.now.slot.name)
-            (λ reads. reads.claim.name ≡ self.now.slot.name) }
+        grant: Grant<'g, Reading, V>,
+    ) -> Result<Grant<'g, Writing, V>, Grant<'g, Reading, V>>
+        requires alone { HasState IsExclusive self.old }
+        requires own { grant.claim.name ≡ self.old.word.now.slot.name }
+        ensures of { self.new.word ≡ self.old.word }
+        ensures state { self.new.claim.state ≡ self.old.claim.state }
+        ensures alone { HasState IsExclusive self.new }
+        ensures own { MatchResult result (λ writes. writes.claim.name ≡ self.old.word.now.slot.name)
+            (λ reads. reads.claim.name ≡ self.old.word.now.slot.name) }
         ensures counts { MatchResult result
-            (λ _. CountsAsWriter held.old.seat.view held.new.seat.view)
-            (λ _. CountsMore 0 held.old.seat.view held.new.seat.view) }
+            (λ _. CountsAsWriter self.old.seat.view self.new.seat.view)
+            (λ _. CountsMore 0 self.old.seat.view self.new.seat.view) }
         ensures passes_nobody { IfOk result (λ _. HasState (λ _ q.
-            length q.write_line.waiting ≡ 0) held.new) }
+            length q.write_line.waiting ≡ 0) self.new) }
         ensures refused { IfErr result (λ _. HasState (λ n q. MayUpgrade n q
-            → ⊥) held.new) }
+            → ⊥) self.new) }
     {
         let mut grant = grant;
         for _ in rt.forever() {
-            let seen = self.look_alone(held);
-            if !self.may_upgrade(held, seen) {
+            let seen = self.look_alone();
+            if !self.may_upgrade(seen) {
                 return Err(grant);
             }
             let new = seen - READER + WRITER;
-            let (made, claim) = held.turn(self, grant.into_claim(), seen, new);
+            let (made, claim) = self.turn(grant.into_claim(), seen, new);
             if made {
                 return Ok(Grant::new(claim));
             }
@@ -521,7 +506,9 @@ impl<V> Word<Queues<Task>, V> {
         }
         unreachable!()
     }
+}
 
+impl<V> Word<Queues<Task>, V> {
     /// Turns the right of the writer into a right to read, lets in all readers that wait, and returns the right to read.
     ///
     /// May block until the queues are at home.
@@ -544,33 +531,33 @@ impl<V> Word<Queues<Task>, V> {
         }
         let (_, mut held) = self.take(rt);
         let mut waking = Wakes::new();
-        let reads = self.count_as_reader(rt, &mut held, grant);
-        self.hand_to_readers(&mut held, &mut waking);
-        self.put_back_waking(rt, held, waking);
+        let reads = held.count_as_reader(rt, grant);
+        held.hand_to_readers(&mut waking);
+        held.put_back_waking(rt, waking);
         reads
     }
+}
 
+impl<'a, V> Held<'a, Queues<Task>, V> {
     // Counts the writer as a reader. The word counts the writer as long as it has its right.
-    fn count_as_reader<'a, R: Wait>(
-        &self,
+    fn count_as_reader<'g, R: Wait>(
+        &mut self,
         rt: &R,
-        held: &mut Out<'_, V>,
-        grant: Grant<'a, Writing, V>,
-    ) -> Grant<'a, Reading, V>
-        requires seat { IsOf self.now.slot.name held.old }
-        requires alone { HasState IsExclusive held.old }
-        requires own { grant.claim.name ≡ self.now.slot.name }
-        ensures seat { IsOf self.now.slot.name held.new }
-        ensures state { held.new.claim.state ≡ held.old.claim.state }
-        ensures counts { CountsAsReader held.old.seat.view held.new.seat.view }
-        ensures was { HasState (λ n q. (n ≡ 2) × IsExclusive 1 q) held.new }
-        ensures own { result.claim.name ≡ self.now.slot.name }
+        grant: Grant<'g, Writing, V>,
+    ) -> Grant<'g, Reading, V>
+        requires alone { HasState IsExclusive self.old }
+        requires own { grant.claim.name ≡ self.old.word.now.slot.name }
+        ensures of { self.new.word ≡ self.old.word }
+        ensures state { self.new.claim.state ≡ self.old.claim.state }
+        ensures counts { CountsAsReader self.old.seat.view self.new.seat.view }
+        ensures was { HasState (λ n q. (n ≡ 2) × IsExclusive 1 q) self.new }
+        ensures own { result.claim.name ≡ self.old.word.now.slot.name }
     {
         let mut grant = grant;
         for _ in rt.forever() {
-            let (seen, writes) = self.look_alone_holding(held, grant);
+            let (seen, writes) = self.look_alone_holding(grant);
             let new = seen - WRITER + READER;
-            let (made, claim) = held.turn(self, writes.into_claim(), seen, new);
+            let (made, claim) = self.turn(writes.into_claim(), seen, new);
             if made {
                 return Grant::new(claim);
             }
@@ -580,15 +567,14 @@ impl<V> Word<Queues<Task>, V> {
     }
 
     // Lets in all readers that wait, once the writer is counted as a reader.
-    fn hand_to_readers(&self, held: &mut Out<'_, V>, waking: &mut Wakes)
-        requires seat { IsOf self.now.slot.name held.old }
-        requires reads { HasState (λ n q. (n ≡ 2) × IsExclusive 1 q) held.old }
-        ensures seat { IsOf self.now.slot.name held.new }
-        ensures number { held.new.seat.view ≡ held.old.seat.view }
+    fn hand_to_readers(&mut self, waking: &mut Wakes)
+        requires reads { HasState (λ n q. (n ≡ 2) × IsExclusive 1 q) self.old }
+        ensures of { self.new.word ≡ self.old.word }
+        ensures number { self.new.seat.view ≡ self.old.seat.view }
         ensures lets_in { HasState (λ n q. (n ≡ 2) × IsExclusive n q
-            × (length q.read_line.waiting ≡ 0)) held.new }
+            × (length q.read_line.waiting ≡ 0)) self.new }
     {
-        let queues = held.claim.state_mut();
+        let queues = self.claim.state_mut();
         queues.swap_room(&mut waking.room);
         queues.downgrade(waking);
         queues.swap_room(&mut waking.room);

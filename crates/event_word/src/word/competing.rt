@@ -2,7 +2,7 @@
 ghost use Rattle.std.specs.Prelude.{◌≡◌, ◌+◌, ◌<◌, ◌≤◌, true, Some, None, IfOk, OnErr};
 ghost use Rattle.event_word.specs.Contender.{Comes, Loses, NobodyIsBy, coming_of, count_of, losses_after};
 ghost use Rattle.event_word.specs.Free.{ServesTheStarving, ServesWith, StandsIf, free_of, IsClosed, IsShut};
-ghost use Rattle.event_word.specs.Held.{HasState, IsOf};
+ghost use Rattle.event_word.specs.Held.{HasState};
 ghost use Rattle.event_wait.specs.Attempted.{Stores};
 
 use super::Word;
@@ -34,16 +34,17 @@ impl<C: Counted, V> Word<Competing<C>, V> {
         ensures closes { result.is_closed ≡ true → C.CLOSES ≡ true }
     {
         let (number, mut held) = self.take(rt);
-        let counts = self.counted(&mut held, number);
-        self.put_back(rt, held);
+        let counts = held.counted(number);
+        held.put_back(rt);
         counts
     }
+}
 
-    fn counted(&self, held: &mut Held<'_, Competing<C>, V>, number: u64) -> Counts
-        requires seat { IsOf self.now.slot.name held.old }
-        requires stands { HasState (λ n q. (n ≡ number) × StandsIf C.CLOSES n q.line) held.old }
-        ensures seat { IsOf self.now.slot.name held.new }
-        ensures serves { HasState (λ n q. ServesTheStarving n q.line) held.new }
+impl<'a, C: Counted, V> Held<'a, Competing<C>, V> {
+    fn counted(&mut self, number: u64) -> Counts
+        requires stands { HasState (λ n q. (n ≡ number) × StandsIf C.CLOSES n q.line) self.old }
+        ensures of { self.new.word ≡ self.old.word }
+        ensures serves { HasState (λ n q. ServesTheStarving n q.line) self.new }
         ensures nobody { result.notified < result.free → result.waiting ≡ 0 }
         ensures shuts { (0 < result.starving → result.is_shut ≡ true)
             × (result.is_shut ≡ true → 0 < result.starving) }
@@ -51,7 +52,7 @@ impl<C: Counted, V> Word<Competing<C>, V> {
             → result.notified + result.waiting + result.starving ≡ 0 }
         ensures closes { result.is_closed ≡ true → C.CLOSES ≡ true }
     {
-        let line = &held.claim.state_mut().line;
+        let line = &self.claim.state_mut().line;
         Counts {
             free: free(number),
             notified: line.told(),
@@ -67,23 +68,21 @@ impl<C: Counted, V> Word<Competing<C>, V> {
     /// A notified contender leaves the queue; a contender that is not notified stores the task that the exchange makes and waits
     /// on.
     pub fn come<O, X: TaskExchange<Task, O>>(
-        &self,
-        held: &mut Held<'_, Competing<C>, V>,
+        &mut self,
         place: &mut Option<Key>,
         exchange: &X,
         on: &mut O,
     ) -> Arrival
-        requires seat { IsOf self.now.slot.name held.old }
-        requires stands { HasState (λ n q. StandsIf C.CLOSES n q.line) held.old }
-        ensures seat { IsOf self.now.slot.name held.new }
-        ensures serves { HasState (λ n q. ServesWith (count_of result) n q.line) held.new }
-        ensures number { held.new.seat.view.number ≡ held.old.seat.view.number }
-        ensures came { HasState (λ _ q. result ≡ coming_of place.old q.line) held.old }
+        requires stands { HasState (λ n q. StandsIf C.CLOSES n q.line) self.old }
+        ensures of { self.new.word ≡ self.old.word }
+        ensures serves { HasState (λ n q. ServesWith (count_of result) n q.line) self.new }
+        ensures number { self.new.seat.view.number ≡ self.old.seat.view.number }
+        ensures came { HasState (λ _ q. result ≡ coming_of place.old q.line) self.old }
         ensures comes { HasState (λ _ q.
             Comes (X.exchanged exchange.now) place.old on.old result q.line place.new on.new)
-            held.new }
+            self.new }
     {
-        Arrival::new(held.claim.state_mut().come(place, exchange, on))
+        Arrival::new(self.claim.state_mut().come(place, exchange, on))
     }
 
     /// Has a contender whose attempt found nothing wait at the end of the queue, and returns its key.
@@ -91,29 +90,27 @@ impl<C: Counted, V> Word<Competing<C>, V> {
     /// `losses` says how often the contender has lost then. Returns [`LockError::Listen`] if memory runs out or the queue has
     /// given out all its serial numbers; an error leaves the place and the losses as they were. May allocate.
     pub fn lose<O, X: TaskExchange<Task, O>>(
-        &self,
-        held: &mut Held<'_, Competing<C>, V>,
+        &mut self,
         place: &mut Option<Key>,
         losses: &mut u32,
         arrival: Arrival,
         exchange: &X,
         on: &mut O,
     ) -> Result<Key, LockError>
-        requires seat { IsOf self.now.slot.name held.old }
-        requires serves { HasState (λ n q. ServesTheStarving n q.line) held.old }
-        ensures seat { IsOf self.now.slot.name held.new }
-        ensures serves { HasState (λ n q. ServesTheStarving n q.line) held.new }
-        ensures number { held.new.seat.view.number ≡ held.old.seat.view.number }
+        requires serves { HasState (λ n q. ServesTheStarving n q.line) self.old }
+        ensures of { self.new.word ≡ self.old.word }
+        ensures serves { HasState (λ n q. ServesTheStarving n q.line) self.new }
+        ensures number { self.new.seat.view.number ≡ self.old.seat.view.number }
         ensures place { IfOk result (λ key. place.new ≡ Some key) }
         ensures losses { IfOk result (λ _. losses.new ≡ losses_after losses.old arrival) }
         ensures loses { IfOk result (λ key. HasState (λ _ before. HasState (λ _ after.
             Loses (X.exchanged exchange.now) losses.new key before.line on.old after.line on.new)
-            held.new) held.old) }
+            self.new) self.old) }
         ensures waits { IfOk result (λ _. Stores (X.exchanged exchange.now) on.old on.new) }
         ensures refused { OnErr result ((place.new ≡ place.old) × (losses.new ≡ losses.old)
             × (on.new ≡ on.old)) }
     {
-        let state = held.claim.state_mut();
+        let state = self.claim.state_mut();
         if let Err(AllocError) = state.make_room() {
             return Err(LockError::Listen(ListenError::Memory));
         }
@@ -122,14 +119,13 @@ impl<C: Counted, V> Word<Competing<C>, V> {
 
     /// Removes a contender from the queue, if it is there, and returns how it would have started an attempt: notified, or else
     /// new.
-    pub fn leave(&self, held: &mut Held<'_, Competing<C>, V>, place: &mut Option<Key>) -> Arrival
-        requires seat { IsOf self.now.slot.name held.old }
-        requires stands { HasState (λ n q. StandsIf C.CLOSES n q.line) held.old }
-        ensures seat { IsOf self.now.slot.name held.new }
-        ensures serves { HasState (λ n q. ServesWith (count_of result) n q.line) held.new }
-        ensures left { HasState (λ _ q. NobodyIsBy place.old q.line) held.new }
+    pub fn leave(&mut self, place: &mut Option<Key>) -> Arrival
+        requires stands { HasState (λ n q. StandsIf C.CLOSES n q.line) self.old }
+        ensures of { self.new.word ≡ self.old.word }
+        ensures serves { HasState (λ n q. ServesWith (count_of result) n q.line) self.new }
+        ensures left { HasState (λ _ q. NobodyIsBy place.old q.line) self.new }
         ensures place { place.new ≡ None }
     {
-        Arrival::new(held.claim.state_mut().leave(place))
+        Arrival::new(self.claim.state_mut().leave(place))
     }
 }

@@ -2,7 +2,7 @@
 ghost use Rattle.std.specs.Prelude.{◌≡◌, ◌+◌, ◌-◌, ◌≤◌, ◌^◌, [], Err, min, IfOk, IfSome};
 ghost use Rattle.event_word.specs.declared.error.TryAcquireError.TheVariants.{Closed, NoPermits};
 ghost use Rattle.event_word.specs.Free.{IsClosed, NobodyIsThere, NoneFor, ServesTheStarving, ServesWith, free_of};
-ghost use Rattle.event_word.specs.Held.{HasState, IsOf};
+ghost use Rattle.event_word.specs.Held.{HasState};
 ghost use Rattle.event_word.specs.Word.{count, number_of};
 
 use super::held::Held;
@@ -140,7 +140,7 @@ impl Word<Competing<Permits>, ()> {
             if seen % 4 == CROWDED {
                 match self.try_take(seat, seen, seen + more * ONE - 1) {
                     Ok((step, held)) => {
-                        self.put_back(rt, held);
+                        held.put_back(rt);
                         return step;
                     }
                     Err(again) => seat = again,
@@ -152,43 +152,45 @@ impl Word<Competing<Permits>, ()> {
         }
         unreachable!()
     }
+}
 
+impl<'a> Held<'a, Competing<Permits>, ()> {
     /// Takes a permit with the state at hand, if one is free, and returns the permit.
     ///
     /// A contender that was notified (`notified`) takes a permit also where newcomers may take none. Returns
     /// [`TryAcquireError::Closed`] or [`TryAcquireError::NoPermits`] otherwise. The state stays as it is.
     pub fn take_permit<R: Wait>(
-        &self,
+        &mut self,
         rt: &R,
-        held: &mut Held<'_, Competing<Permits>, ()>,
         notified: bool,
     ) -> Result<Permit, TryAcquireError>
-        requires seat { IsOf self.now.slot.name held.old }
-        requires serves { HasState (λ n q. ServesWith (count notified) n q.line) held.old }
-        ensures seat { IsOf self.now.slot.name held.new }
-        ensures state { held.new.claim.state ≡ held.old.claim.state }
-        ensures serves { HasState (λ n q. ServesTheStarving n q.line) held.new }
-        ensures own { IfOk result (λ permit. permit.origin ≡ self.now.slot.name) }
+        requires serves { HasState (λ n q. ServesWith (count notified) n q.line) self.old }
+        ensures of { self.new.word ≡ self.old.word }
+        ensures state { self.new.claim.state ≡ self.old.claim.state }
+        ensures serves { HasState (λ n q. ServesTheStarving n q.line) self.new }
+        ensures own { IfOk result (λ permit. permit.origin ≡ self.old.word.now.slot.name) }
         ensures one { IfOk result (λ permit. permit.count ≡ 1) }
         ensures none { result ≡ Err NoPermits
-            → HasState (λ n _. NoneFor notified n) held.new }
-        ensures closed { result ≡ Err Closed → HasState (λ n _. IsClosed n) held.new }
+            → HasState (λ n _. NoneFor notified n) self.new }
+        ensures closed { result ≡ Err Closed → HasState (λ n _. IsClosed n) self.new }
     {
         for _ in rt.forever() {
-            let seen = self.look_serving(held, notified);
+            let seen = self.look_serving(notified);
             if is_closed(seen / ONE) {
                 return Err(TryAcquireError::Closed);
             }
             if !may_take(seen, notified) {
                 return Err(TryAcquireError::NoPermits);
             }
-            if let Some(step) = held.change(self, seen, seen - ONE) {
+            if let Some(step) = self.change(seen, seen - ONE) {
                 return Ok(Permit::taken(step, 1));
             }
         }
         unreachable!()
     }
+}
 
+impl Word<Competing<Permits>, ()> {
     /// Closes the semaphore, so that no thread gets a permit any more.
     ///
     /// All waiters are notified, in order, and the queue is empty then. Permits that are out are given back still. May block
@@ -196,35 +198,35 @@ impl Word<Competing<Permits>, ()> {
     pub fn close<R: Wait>(&self, rt: &R) {
         let (_, mut held) = self.take(rt);
         let mut waking = Wakes::new();
-        self.mark_closed(rt, &mut held);
-        self.notify_all(&mut held, &mut waking);
-        self.put_back_waking(rt, held, waking);
+        held.mark_closed(rt);
+        held.notify_all(&mut waking);
+        held.put_back_waking(rt, waking);
     }
+}
 
+impl<'a> Held<'a, Competing<Permits>, ()> {
     // Notifies all waiters, and leaves an empty queue.
-    fn notify_all(&self, held: &mut Held<'_, Competing<Permits>, ()>, waking: &mut Wakes)
-        requires seat { IsOf self.now.slot.name held.old }
-        requires closed { HasState (λ n _. IsClosed n) held.old }
-        ensures seat { IsOf self.now.slot.name held.new }
-        ensures nobody { HasState (λ n q. IsClosed n × NobodyIsThere q.line) held.new }
+    fn notify_all(&mut self, waking: &mut Wakes)
+        requires closed { HasState (λ n _. IsClosed n) self.old }
+        ensures of { self.new.word ≡ self.old.word }
+        ensures nobody { HasState (λ n q. IsClosed n × NobodyIsThere q.line) self.new }
     {
-        let state = held.claim.state_mut();
+        let state = self.claim.state_mut();
         state.swap_room(&mut waking.room);
         state.close(waking);
         state.swap_room(&mut waking.room);
     }
 
     // Sets the bit that says that the semaphore is closed, and clears the bit that shuts newcomers out.
-    fn mark_closed<R: Wait>(&self, rt: &R, held: &mut Held<'_, Competing<Permits>, ()>)
-        requires seat { IsOf self.now.slot.name held.old }
-        requires serves { HasState (λ n q. ServesTheStarving n q.line) held.old }
-        ensures seat { IsOf self.now.slot.name held.new }
-        ensures closed { HasState (λ n _. IsClosed n) held.new }
+    fn mark_closed<R: Wait>(&mut self, rt: &R)
+        requires serves { HasState (λ n q. ServesTheStarving n q.line) self.old }
+        ensures of { self.new.word ≡ self.old.word }
+        ensures closed { HasState (λ n _. IsClosed n) self.new }
     {
         for _ in rt.forever() {
-            let seen = self.look_serving(held, false);
+            let seen = self.look_serving(false);
             let closed = free(seen / ONE) + CLOSED;
-            if let Some(_) = held.change(self, seen, closed * ONE + seen % 4) {
+            if let Some(_) = self.change(seen, closed * ONE + seen % 4) {
                 return;
             }
         }

@@ -1,7 +1,7 @@
 //! Looking at the number of a lock for which threads compete, with its state out.
 ghost use Rattle.std.specs.Prelude.{◌≡◌, ◌%◌, ◌<◌, ◌≤◌, false, true};
 ghost use Rattle.event_word.specs.Free.{IsClosed, IsOpen, NoneFor, ServesWith, free_of, unshut_of};
-ghost use Rattle.event_word.specs.Held.{HasState, IsOf};
+ghost use Rattle.event_word.specs.Held.{HasState};
 ghost use Rattle.event_word.specs.Word.{count, number_of};
 
 use super::held::Held;
@@ -19,19 +19,18 @@ pub(crate) fn may_take(seen: u64, notified: bool) -> bool
     free(seen / ONE) > 0 && (notified || seen < CLOSED * ONE)
 }
 
-impl<C: Counted, V> Word<Competing<C>, V> {
+impl<'a, C: Counted, V> Held<'a, Competing<C>, V> {
     /// Returns the word while the state is out. What is left for the notified waiters that starve, and for one more contender
     /// that was notified, is left still.
     #[inline(always)]
-    pub(crate) fn look_serving(&self, held: &mut Held<'_, Competing<C>, V>, notified: bool) -> u64
-        requires seat { IsOf self.now.slot.name held.old }
-        requires serves { HasState (λ n q. ServesWith (count notified) n q.line) held.old }
-        ensures seat { IsOf self.now.slot.name held.new }
-        ensures state { held.new.claim.state ≡ held.old.claim.state }
+    pub(crate) fn look_serving(&mut self, notified: bool) -> u64
+        requires serves { HasState (λ n q. ServesWith (count notified) n q.line) self.old }
+        ensures of { self.new.word ≡ self.old.word }
+        ensures state { self.new.claim.state ≡ self.old.claim.state }
         ensures word { (result % 2 ≡ 1) × C.fits (unshut_of (number_of result)) }
         ensures serves { HasState (λ n q. (n ≡ number_of result)
-            × ServesWith (count notified) n q.line) held.new }
+            × ServesWith (count notified) n q.line) self.new }
     {
-        held.look(self)
+        self.look()
     }
 }

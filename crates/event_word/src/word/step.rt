@@ -87,19 +87,19 @@ impl<S: Kept, V> Held<'_, S, V> {
     /// The thread that has the state out notifies waiters of the new number later. Returns `None`, and changes nothing, if the
     /// word was not `seen` any more.
     #[inline(always)]
-    pub fn change(&mut self, word: &Word<S, V>, seen: u64, new: u64) -> Option<Step>
-        requires seat { IsOf word.now.slot.name self.old }
+    pub fn change(&mut self, seen: u64, new: u64) -> Option<Step>
         requires state { HasState (λ _ _. ⊤) self.old }
         requires takes { Takes S.rules seen new × Stays S.rules seen new }
         requires code { new % 4 ≡ seen % 4 }
-        ensures seat { IsOf word.now.slot.name self.new }
+        ensures of { self.new.word ≡ self.old.word }
         ensures state { self.new.claim.state ≡ self.old.claim.state }
         ensures changes { MatchOption result (self.new.seat.view ≡ self.old.seat.view)
             (λ made. self.new.seat.view.number ≡ Some (number_of new)) }
         ensures step { IfSome result (λ made. (made.from ≡ seen) × (made.to ≡ new)
-            × (made.origin.name ≡ word.now.slot.name)) }
+            × (made.origin.name ≡ self.old.word.now.slot.name)) }
     {
-        let (found, claim) = word
+        let (found, claim) = self
+            .word
             .slot
             .claim()
             .exchange::<Move>(&mut self.seat, seen, new);

@@ -32,7 +32,11 @@ impl<S: Kept, V> Word<S, V> {
         let mut seat = seat;
         let (found, claim) = self.slot.claim().exchange::<Take>(&mut seat, seen, new);
         if found == seen {
-            return Ok(Held { claim, seat });
+            return Ok(Held {
+                word: self,
+                claim,
+                seat,
+            });
         }
         claim.done();
         Err(seat)
@@ -114,51 +118,51 @@ impl<S: Kept, V> Word<S, V> {
         claim.done();
         found == seen
     }
+}
 
+impl<'a, S: Kept, V> Held<'a, S, V> {
     /// Notifies the waiters of what is free by the number, puts the state back, and then wakes the notified tasks.
     ///
     /// The number may change before the state is back: then the call notifies again. Where more than a few tasks are to be woken,
     /// the call takes the state again for each few, for which it may block. Takes no memory.
     #[cold]
     #[inline(never)]
-    pub fn put_back<R: Wait>(&self, rt: &R, held: Held<'_, S, V>)
-        requires seat { IsOf self.now.slot.name held }
-        requires promised { HasState S.rules.promised held }
+    pub fn put_back<R: Wait>(self, rt: &R)
+        requires promised { HasState S.rules.promised self }
     {
-        self.put_back_waking(rt, held, Wakes::new());
+        self.put_back_waking(rt, Wakes::new());
     }
 
     /// Puts the state back as `put_back` does, after a step that has notified already.
-    pub(crate) fn put_back_waking<R: Wait>(&self, rt: &R, held: Held<'_, S, V>, waking: Wakes)
-        requires seat { IsOf self.now.slot.name held }
-        requires promised { HasState S.rules.promised held }
+    pub(crate) fn put_back_waking<R: Wait>(self, rt: &R, waking: Wakes)
+        requires promised { HasState S.rules.promised self }
     {
         let mut waking = waking;
-        self.put_home(rt, held, &mut waking);
+        let word = self.word;
+        self.put_home(rt, &mut waking);
         for _ in rt.forever() {
             if !waking.wake_few() {
                 waking.end();
                 return;
             }
-            let (_, again) = self.take(rt);
-            self.put_home(rt, again, &mut waking);
+            let (_, again) = word.take(rt);
+            again.put_home(rt, &mut waking);
         }
         unreachable!()
     }
 
     // Puts the state back, and wakes no task yet.
-    fn put_home<R: Wait>(&self, rt: &R, held: Held<'_, S, V>, waking: &mut Wakes)
-        requires seat { IsOf self.now.slot.name held }
-        requires promised { HasState S.rules.promised held }
+    fn put_home<R: Wait>(self, rt: &R, waking: &mut Wakes)
+        requires promised { HasState S.rules.promised self }
     {
-        let mut held = held;
+        let mut held = self;
         for _ in 0..TRIES {
-            match self.try_to_put_back(held, waking) {
+            match held.try_to_put_back(waking) {
                 Ok(_) => return,
                 Err(again) => held = again,
             }
         }
-        self.put_home_shut(rt, held, waking);
+        held.put_home_shut(rt, waking);
     }
 
     // Puts the state back where the number changed again and again. Newcomers are shut out first, so a try fails only as often as
@@ -166,14 +170,13 @@ impl<S: Kept, V> Word<S, V> {
     // `Right::word_in`).
     #[cold]
     #[inline(never)]
-    fn put_home_shut<R: Wait>(&self, rt: &R, held: Held<'_, S, V>, waking: &mut Wakes)
-        requires seat { IsOf self.now.slot.name held }
-        requires promised { HasState S.rules.promised held }
+    fn put_home_shut<R: Wait>(self, rt: &R, waking: &mut Wakes)
+        requires promised { HasState S.rules.promised self }
     {
-        let mut held = held;
+        let mut held = self;
         for _ in rt.forever() {
-            self.shut_out(&mut held);
-            match self.try_to_put_back(held, waking) {
+            held.shut_out();
+            match held.try_to_put_back(waking) {
                 Ok(_) => return,
                 Err(again) => held = again,
             }
@@ -182,57 +185,57 @@ impl<S: Kept, V> Word<S, V> {
     }
 
     // Gives the word the number by which newcomers leave it alone, if the word is as it was seen.
-    fn shut_out(&self, held: &mut Held<'_, S, V>)
-        requires seat { IsOf self.now.slot.name held.old }
-        requires promised { HasState S.rules.promised held.old }
-        ensures seat { IsOf self.now.slot.name held.new }
-        ensures promised { HasState S.rules.promised held.new }
+    fn shut_out(&mut self)
+        requires promised { HasState S.rules.promised self.old }
+        ensures of { self.new.word ≡ self.old.word }
+        ensures promised { HasState S.rules.promised self.new }
     {
-        let seen = self.see(held);
+        let seen = self.see();
         let number = seen / ONE;
         let shut = S::shut(number);
         if shut != number {
-            self.renumber(held, seen, shut * ONE + seen % 4);
+            self.renumber(seen, shut * ONE + seen % 4);
         }
     }
 
     // Returns the seat that had the state, which owes no wake any more. An error has the state where the number changed
     // meanwhile.
     #[tactic(auto, using(crate::proofs::WordKeeps::quiet))]
-    fn try_to_put_back<'a>(
-        &self,
-        held: Held<'a, S, V>,
-        waking: &mut Wakes,
-    ) -> Result<Seat, Held<'a, S, V>>
-        requires seat { IsOf self.now.slot.name held }
-        requires promised { HasState S.rules.promised held }
-        ensures pays { IfOk result (λ seat. (seat.id ≡ held.entry.seat.id) × (seat.view ≡ nothing)) }
-        ensures again { IfErr result (λ again. IsOf self.now.slot.name again
+    fn try_to_put_back(self, waking: &mut Wakes) -> Result<Seat, Self>
+        requires promised { HasState S.rules.promised self }
+        ensures pays { IfOk result (λ seat. (seat.id ≡ self.entry.seat.id) × (seat.view ≡ nothing)) }
+        ensures again { IfErr result (λ again. (again.word ≡ self.entry.word)
             × HasState S.rules.promised again) }
     {
-        let mut held = held;
-        let seen = self.see(&mut held);
+        let mut held = self;
+        let seen = held.see();
         let number = seen / ONE;
-        let aim = self.marked(&mut held, number);
+        let aim = held.marked(number);
         if aim > number {
-            self.renumber(&mut held, seen, aim * ONE + seen % 4);
+            held.renumber(seen, aim * ONE + seen % 4);
             return Err(held);
         }
-        let waits = self.settle(&mut held, number, aim, waking);
+        let waits = held.settle(number, aim, waking);
         let code = if waits { CROWDED } else { 0 };
-        let Held { claim, mut seat } = held;
+        let Held {
+            word,
+            claim,
+            mut seat,
+        } = held;
         let (found, claim) = claim.exchange::<Put>(&mut seat, seen, aim * ONE + code);
         if found != seen {
-            return Err(Held { claim, seat });
+            return Err(Held { word, claim, seat });
         }
         claim.done();
         if seen % 4 != AWAITED {
             return Ok(seat);
         }
-        self.wake_one(&mut seat);
+        word.wake_one(&mut seat);
         Ok(seat)
     }
+}
 
+impl<S: Kept, V> Word<S, V> {
     // Wakes a thread that sleeps.
     #[tactic(auto, using(crate::proofs::WordKeeps::wakes))]
     fn wake_one(&self, seat: &mut Seat)
@@ -241,65 +244,63 @@ impl<S: Kept, V> Word<S, V> {
     {
         self.slot.wake_one::<Wake>(seat);
     }
+}
 
+impl<'a, S: Kept, V> Held<'a, S, V> {
     // Looks at the word with the state out, and remembers its number.
-    fn see(&self, held: &mut Held<'_, S, V>) -> u64
-        requires seat { IsOf self.now.slot.name held.old }
-        requires promised { HasState S.rules.promised held.old }
-        ensures seat { IsOf self.now.slot.name held.new }
-        ensures same { held.new.seat.id ≡ held.old.seat.id }
+    fn see(&mut self) -> u64
+        requires promised { HasState S.rules.promised self.old }
+        ensures of { self.new.word ≡ self.old.word }
+        ensures same { self.new.seat.id ≡ self.old.seat.id }
         ensures word { (result % 2 ≡ 1) × S.rules.fits (number_of result) }
-        ensures promised { HasState (λ n q. (n ≡ number_of result) × S.rules.promised n q) held.new }
+        ensures promised { HasState (λ n q. (n ≡ number_of result) × S.rules.promised n q) self.new }
     {
-        held.look(self)
+        self.look()
     }
 
     // Returns the number that the word is to have before a waiter is notified.
-    fn marked(&self, held: &mut Held<'_, S, V>, number: u64) -> u64
-        requires seat { IsOf self.now.slot.name held.old }
+    fn marked(&mut self, number: u64) -> u64
         requires number { (number < 2 ^ 62) × S.rules.fits number }
-        requires promised { HasState (λ n q. (n ≡ number) × S.rules.promised n q) held.old }
-        ensures seat { IsOf self.now.slot.name held.new }
-        ensures same { held.new.seat.id ≡ held.old.seat.id }
+        requires promised { HasState (λ n q. (n ≡ number) × S.rules.promised n q) self.old }
+        ensures of { self.new.word ≡ self.old.word }
+        ensures same { self.new.seat.id ≡ self.old.seat.id }
         ensures number { (result < 2 ^ 62) × S.rules.fits result
             × Stays S.rules (number * 4) (result * 4) }
         ensures promised { HasState (λ n q. (n ≡ number) × S.rules.promised number q
-            × S.rules.promised result q × S.rules.tells result q) held.new }
+            × S.rules.promised result q × S.rules.tells result q) self.new }
         ensures lowers { result ≤ number → (q : S) → S.rules.promised result q
             → S.rules.promised number q }
     {
-        held.claim.state_mut().number(number)
+        self.claim.state_mut().number(number)
     }
 
     // Gives the word this number, if the word is as it was seen.
-    fn renumber(&self, held: &mut Held<'_, S, V>, seen: u64, new: u64)
-        requires seat { IsOf self.now.slot.name held.old }
+    fn renumber(&mut self, seen: u64, new: u64)
         requires takes { Takes S.rules seen new × Stays S.rules seen new }
         requires code { new % 4 ≡ seen % 4 }
         requires promised { HasState (λ _ q. S.rules.promised (number_of seen) q
-            × S.rules.promised (number_of new) q) held.old }
-        requires number { HasState (λ n _. n ≡ number_of seen) held.old }
-        ensures seat { IsOf self.now.slot.name held.new }
-        ensures promised { HasState S.rules.promised held.new }
+            × S.rules.promised (number_of new) q) self.old }
+        requires number { HasState (λ n _. n ≡ number_of seen) self.old }
+        ensures of { self.new.word ≡ self.old.word }
+        ensures promised { HasState S.rules.promised self.new }
     {
-        drop(held.change(self, seen, new));
+        drop(self.change(seen, new));
     }
 
     // Notifies the waiters of what is free by the number that the word is to have; their tasks are woken later. The word may have
     // a higher number, by which newcomers are shut out. Returns whether there is a waiter still.
-    fn settle(&self, held: &mut Held<'_, S, V>, number: u64, aim: u64, waking: &mut Wakes) -> bool
-        requires seat { IsOf self.now.slot.name held.old }
+    fn settle(&mut self, number: u64, aim: u64, waking: &mut Wakes) -> bool
         requires number { (aim < 2 ^ 62) × S.rules.fits aim }
         requires promised { HasState (λ n q. (n ≡ number) × S.rules.promised aim q
-            × S.rules.tells aim q) held.old }
+            × S.rules.tells aim q) self.old }
         requires lowers { (q : S) → S.rules.promised aim q → S.rules.promised number q }
-        ensures seat { IsOf self.now.slot.name held.new }
-        ensures same { held.new.seat.id ≡ held.old.seat.id }
+        ensures of { self.new.word ≡ self.old.word }
+        ensures same { self.new.seat.id ≡ self.old.seat.id }
         ensures stands { HasState (λ n q. (n ≡ number) × S.rules.promised number q
-            × S.rules.stands aim q × (result ≡ false → S.rules.quiet q)) held.new }
+            × S.rules.stands aim q × (result ≡ false → S.rules.quiet q)) self.new }
     {
         let _number = number;
-        let state = held.claim.state_mut();
+        let state = self.claim.state_mut();
         state.swap_room(&mut waking.room);
         waking.refill();
         let waits = state.settle(aim, waking);

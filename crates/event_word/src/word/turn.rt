@@ -61,7 +61,7 @@ impl<S: Kept, V> Word<S, V> {
     // error has the claim, the seat and the word where that was another.
     #[tactic(auto, using(crate::proofs::WordKeeps::takes_out, crate::proofs::WordKeeps::due_takes_none))]
     pub(crate) fn turn_out<'a>(
-        &self,
+        &'a self,
         claim: Claim<'a, Place<V>, S>,
         seat: Seat,
         seen: u64,
@@ -81,7 +81,11 @@ impl<S: Kept, V> Word<S, V> {
         let mut seat = seat;
         let (found, claim) = claim.exchange::<Take>(&mut seat, seen, new);
         if found == seen {
-            return Ok(Held { claim, seat });
+            return Ok(Held {
+                word: self,
+                claim,
+                seat,
+            });
         }
         Err((claim, seat, found))
     }
@@ -91,20 +95,18 @@ impl<S: Kept, V> Held<'_, S, V> {
     // Changes the word as `Word::turn` does while the state is out, and stays so.
     pub(crate) fn turn<'b>(
         &mut self,
-        word: &Word<S, V>,
         claim: Claim<'b, Place<V>, S>,
         seen: u64,
         new: u64,
     ) -> (bool, Claim<'b, Place<V>, S>)
-        requires seat { IsOf word.now.slot.name self.old }
         requires state { HasState (λ _ _. ⊤) self.old }
         requires takes { Takes S.rules seen new }
         requires code { new % 4 ≡ seen % 4 }
-        requires own { (claim.name ≡ word.now.slot.name) × (claim.state ≡ None) }
+        requires own { (claim.name ≡ self.old.word.now.slot.name) × (claim.state ≡ None) }
         requires may { MayTurn claim.right (counts_of S.rules seen) (counts_of S.rules new) }
-        ensures seat { IsOf word.now.slot.name self.new }
+        ensures of { self.new.word ≡ self.old.word }
         ensures state { self.new.claim.state ≡ self.old.claim.state }
-        ensures own { (result.1.name ≡ word.now.slot.name) × (result.1.state ≡ None) }
+        ensures own { (result.1.name ≡ self.old.word.now.slot.name) × (result.1.state ≡ None) }
         ensures made { result.0 ≡ true → Becomes claim.entry.right (counts_of S.rules seen)
             (counts_of S.rules new) result.1.right
             × (self.new.seat.view.number ≡ Some (number_of new)) }

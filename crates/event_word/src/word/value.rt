@@ -118,7 +118,7 @@ impl<S: Kept, V> Word<S, V> {
     // Takes the state out where it is at home, gives the right back, and changes the number by the same step. An error has the
     // right, the seat and the word where that was another.
     fn try_swap<'a>(
-        &self,
+        &'a self,
         lent: Lent<'a, S, V>,
         seat: Seat,
         seen: u64,
@@ -141,20 +141,19 @@ impl<S: Kept, V> Word<S, V> {
     }
 }
 
-impl<S: Kept, V> Held<'_, S, V> {
+impl<'a, S: Kept, V> Held<'a, S, V> {
     // Changes the number with the state out, and takes the right to the value, if the word is as it was seen.
-    fn lend<'b>(&mut self, word: &'b Word<S, V>, seen: u64, new: u64) -> Option<Lent<'b, S, V>>
-        requires seat { IsOf word.now.slot.name self.old }
+    fn lend(&mut self, seen: u64, new: u64) -> Option<Lent<'a, S, V>>
         requires state { HasState (λ _ _. ⊤) self.old }
         requires takes { Takes S.rules seen new × Passes S.rules 0 2 seen new }
         requires code { new % 4 ≡ seen % 4 }
-        ensures seat { IsOf word.now.slot.name self.new }
+        ensures of { self.new.word ≡ self.old.word }
         ensures state { self.new.claim.state ≡ self.old.claim.state }
         ensures changes { MatchOption result (self.new.seat.view ≡ self.old.seat.view)
             (λ _. self.new.seat.view.number ≡ Some (number_of new)) }
-        ensures lends { IfSome result (λ lent. lent.name ≡ word.now.slot.name) }
+        ensures lends { IfSome result (λ lent. lent.name ≡ self.old.word.now.slot.name) }
     {
-        let (made, claim) = self.turn(word, word.slot.claim(), seen, new);
+        let (made, claim) = self.turn(self.word.slot.claim(), seen, new);
         if made {
             return Some(claim.write());
         }
@@ -201,7 +200,11 @@ impl<V> Word<Competing<OneValue>, Lodging<V>> {
     /// The call costs one compare-exchange where no thread waits. The call does not wait for the state: a thread that has the
     /// state out notifies.
     #[inline(always)]
-    pub fn give_value<R: Wait>(&self, rt: &R, lent: Lent<'_, Competing<OneValue>, Lodging<V>>)
+    pub fn give_value<'a, R: Wait>(
+        &'a self,
+        rt: &R,
+        lent: Lent<'a, Competing<OneValue>, Lodging<V>>,
+    )
         requires { lent.name ≡ self.now.slot.name }
     {
         if let Err((again, found, seat)) = self.give_back_at(lent, 0, ONE) {
@@ -212,10 +215,10 @@ impl<V> Word<Competing<OneValue>, Lodging<V>> {
     // The word says that a thread has the right, as long as a thread has it.
     #[cold]
     #[inline(never)]
-    fn give_value_slowly<R: Wait>(
-        &self,
+    fn give_value_slowly<'a, R: Wait>(
+        &'a self,
         rt: &R,
-        lent: Lent<'_, Competing<OneValue>, Lodging<V>>,
+        lent: Lent<'a, Competing<OneValue>, Lodging<V>>,
         found: u64,
         seat: Seat,
     )
@@ -229,7 +232,7 @@ impl<V> Word<Competing<OneValue>, Lodging<V>> {
             if seen % 4 == CROWDED {
                 match self.try_swap(lent, seat, seen, seen + ONE - 1) {
                     Ok(held) => {
-                        self.put_back(rt, held);
+                        held.put_back(rt);
                         return;
                     }
                     Err((again, at, found)) => {
@@ -250,36 +253,38 @@ impl<V> Word<Competing<OneValue>, Lodging<V>> {
         }
         unreachable!()
     }
+}
 
+impl<'a, V> Held<'a, Competing<OneValue>, Lodging<V>> {
     /// Takes the right to the value with the state at hand, and returns the right, or `None` if a thread has it.
     ///
     /// A contender that was notified (`notified`) takes the right also where newcomers may not; another contender gets `None`
     /// there. The state stays as it is.
     pub fn take_value<R: Wait>(
-        &self,
+        &mut self,
         rt: &R,
-        held: &mut Held<'_, Competing<OneValue>, Lodging<V>>,
         notified: bool,
-    ) -> Option<Lent<'_, Competing<OneValue>, Lodging<V>>>
-        requires seat { IsOf self.now.slot.name held.old }
-        requires serves { HasState (λ n q. ServesWith (count notified) n q.line) held.old }
-        ensures seat { IsOf self.now.slot.name held.new }
-        ensures value { IfSome result (λ lent. lent.name ≡ self.now.slot.name) }
-        ensures serves { HasState (λ n q. ServesTheStarving n q.line) held.new }
-        ensures none { result ≡ None → HasState (λ n _. NoneFor notified n) held.new }
+    ) -> Option<Lent<'a, Competing<OneValue>, Lodging<V>>>
+        requires serves { HasState (λ n q. ServesWith (count notified) n q.line) self.old }
+        ensures of { self.new.word ≡ self.old.word }
+        ensures value { IfSome result (λ lent. lent.name ≡ self.old.word.now.slot.name) }
+        ensures serves { HasState (λ n q. ServesTheStarving n q.line) self.new }
+        ensures none { result ≡ None → HasState (λ n _. NoneFor notified n) self.new }
     {
         for _ in rt.forever() {
-            let seen = self.look_serving(held, notified);
+            let seen = self.look_serving(notified);
             if !may_take(seen, notified) {
                 return None;
             }
-            if let Some(lent) = held.lend(self, seen, seen - ONE) {
+            if let Some(lent) = self.lend(seen, seen - ONE) {
                 return Some(lent);
             }
         }
         unreachable!()
     }
+}
 
+impl<V> Word<Competing<OneValue>, Lodging<V>> {
     /// Gives up the right to where the value lies, and keeps the value, which was moved out of its place.
     ///
     /// The returned [`Parked`] is for [`unpark`](Word::unpark).

@@ -1,0 +1,7 @@
+use Rattle.std.specs.Prelude.{◌≡◌}
+use Rattle.event_word.specs.Queues.{Admits, CountsMore}
+use Rattle.event_word.specs.Held.{HasState}
+use Rattle.event_word.proofs.shares.steps.Held+Queues+Task+V.let_in.Given as goal
+
+abbrev pub invariant-loop : goal.invariant-loop
+invariant-loop g l = (l.self.word ≡ l.initial.self.word) × (l.self.claim.state ≡ l.initial.self.claim.state) × HasState (Admits g.K.Right.COUNTS) l.self × CountsMore 0 l.initial.self.seat.view l.self.seat.view

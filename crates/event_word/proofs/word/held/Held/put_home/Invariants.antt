@@ -1,0 +1,5 @@
+use Rattle.event_word.specs.Held.{HasState}
+use Rattle.event_word.proofs.word.held.Held.put_home.Given as goal
+
+abbrev pub invariant-loop : goal.invariant-loop
+invariant-loop g l = HasState g.S.Kept.rules.promised l.held
