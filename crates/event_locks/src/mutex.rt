@@ -4,7 +4,7 @@ ghost use Rattle.event_wait.specs.Attempted.{Attempts, OnDone, OnRefused, OnUndo
 ghost use Rattle.event_word.specs.Contender.{coming_of, losses_after};
 ghost use Rattle.event_word.specs.declared.contender.Coming.TheVariants.{New, Notified};
 ghost use Rattle.event_word.specs.Free.{NoneFor, ServesTheStarving, StandsIf, free_of};
-ghost use Rattle.event_word.specs.Held.{HasState, IsOf};
+ghost use Rattle.event_word.specs.Held.{HasState};
 
 mod guard;
 mod lender;
@@ -228,47 +228,6 @@ impl<T: Drop> Mutex<T> {
         put_in(&mut lent, value);
         self.word.give_value(rt, lent);
     }
-
-    fn attempt_held<'a, C, X: TaskExchange<Task, C>, R: Wait>(
-        &'a self,
-        rt: &R,
-        held: &mut Held<'_, Competing<OneValue>, Lodging<T>>,
-        place: &mut Option<Key>,
-        losses: &mut u32,
-        exchange: &X,
-        on: &mut C,
-    ) -> Attempted<Right<'a, T>, LockError>
-        requires seat { IsOf self.now.word.slot.name held.old }
-        requires stands { HasState (λ n q. StandsIf false n q.line) held.old }
-        ensures seat { IsOf self.now.word.slot.name held.new }
-        ensures value { OnDone result (λ lent. lent.name ≡ self.now.word.slot.name) }
-        ensures serves { HasState (λ n q. ServesTheStarving n q.line) held.new }
-        ensures place { place.new ≡ key_of result }
-        ensures done { OnDone result (λ _. losses.new ≡ losses.old) }
-        ensures loses { OnUndone result (HasState (λ _ q. losses.new
-            ≡ losses_after losses.old (coming_of place.old q.line)) held.old) }
-        ensures none { OnUndone result
-            (HasState (λ _ q. coming_of place.old q.line ≡ Notified) held.old
-            → HasState (λ n _. free_of n ≡ 0) held.new) }
-        ensures waits { OnUndone result
-            (HasState (λ _ q. coming_of place.old q.line ≡ New) held.old
-            → HasState (λ n _. NoneFor false n) held.new) }
-        ensures refused { OnRefused result (losses.new ≡ losses.old) }
-        ensures exchanged { Attempts (X.exchanged exchange.now) on.old result on.new }
-    {
-        let arrival = self.word.come(held, place, exchange, on);
-        let coming = arrival.coming();
-        if let Coming::Waits(key) = coming {
-            return Attempted::Waits(key);
-        }
-        if let Some(lent) = self.word.take_value(rt, held, coming.is_notified()) {
-            return Attempted::Done(lent);
-        }
-        match self.word.lose(held, place, losses, arrival, exchange, on) {
-            Ok(key) => Attempted::Waits(key),
-            Err(error) => Attempted::Refused(error),
-        }
-    }
 }
 
 // Moves the value out for one that has the right to its place.
@@ -302,5 +261,45 @@ impl<T: Drop> Debug for Mutex<T> {
         f.debug_struct("Mutex")
             .field("is_locked", &(self.word.free() == 0))
             .finish()
+    }
+}
+
+// Attempts for a contender with the queue out, and has a contender that finds nothing wait at the end of the queue.
+fn attempt_held<'a, T, C, X: TaskExchange<Task, C>, R: Wait>(
+    rt: &R,
+    held: &mut Held<'a, Competing<OneValue>, Lodging<T>>,
+    place: &mut Option<Key>,
+    losses: &mut u32,
+    exchange: &X,
+    on: &mut C,
+) -> Attempted<Right<'a, T>, LockError>
+    requires stands { HasState (λ n q. StandsIf false n q.line) held.old }
+    ensures of { held.new.word ≡ held.old.word }
+    ensures value { OnDone result (λ lent. lent.name ≡ held.old.word.now.slot.name) }
+    ensures serves { HasState (λ n q. ServesTheStarving n q.line) held.new }
+    ensures place { place.new ≡ key_of result }
+    ensures done { OnDone result (λ _. losses.new ≡ losses.old) }
+    ensures loses { OnUndone result (HasState (λ _ q. losses.new
+        ≡ losses_after losses.old (coming_of place.old q.line)) held.old) }
+    ensures none { OnUndone result
+        (HasState (λ _ q. coming_of place.old q.line ≡ Notified) held.old
+        → HasState (λ n _. free_of n ≡ 0) held.new) }
+    ensures waits { OnUndone result
+        (HasState (λ _ q. coming_of place.old q.line ≡ New) held.old
+        → HasState (λ n _. NoneFor false n) held.new) }
+    ensures refused { OnRefused result (losses.new ≡ losses.old) }
+    ensures exchanged { Attempts (X.exchanged exchange.now) on.old result on.new }
+{
+    let arrival = held.come(place, exchange, on);
+    let coming = arrival.coming();
+    if let Coming::Waits(key) = coming {
+        return Attempted::Waits(key);
+    }
+    if let Some(lent) = held.take_value(rt, coming.is_notified()) {
+        return Attempted::Done(lent);
+    }
+    match held.lose(place, losses, arrival, exchange, on) {
+        Ok(key) => Attempted::Waits(key),
+        Err(error) => Attempted::Refused(error),
     }
 }

@@ -222,8 +222,8 @@ impl<T> RwLock<T> {
         ensures one_writer { result.writers + result.writers_let_in ≤ 1 }
     {
         let (number, mut held) = self.word.take(rt);
-        let counts = self.word.counted(&mut held, number);
-        self.word.put_back(rt, held);
+        let counts = held.counted(number);
+        held.put_back(rt);
         counts
     }
 

@@ -6,7 +6,7 @@ ghost use Rattle.event_locks.specs.Losses.{LosesOnceAtMost};
 ghost use Rattle.event_word.specs.Contender.{coming_of, losses_after};
 ghost use Rattle.event_word.specs.declared.contender.Coming.TheVariants.{New, Notified};
 ghost use Rattle.event_word.specs.Free.{IsClosed, NoneFor, ServesTheStarving, Stands, free_of};
-ghost use Rattle.event_word.specs.Held.{HasState, IsOf};
+ghost use Rattle.event_word.specs.Held.{HasState};
 ghost use Rattle.event_word.specs.Permit.{IsOne};
 
 mod acquire;
@@ -272,53 +272,6 @@ impl Semaphore {
     {
         self.word.give_permit(rt, permit);
     }
-
-    fn attempt_held<C, X: TaskExchange<Task, C>, R: Wait>(
-        &self,
-        rt: &R,
-        held: &mut Held<'_, Competing<Permits>, ()>,
-        place: &mut Option<Key>,
-        losses: &mut u32,
-        exchange: &X,
-        on: &mut C,
-    ) -> Attempted<Result<Permit, AcquireError>, LockError>
-        requires seat { IsOf self.now.word.slot.name held.old }
-        requires stands { HasState (λ n q. Stands n q.line) held.old }
-        ensures seat { IsOf self.now.word.slot.name held.new }
-        ensures own { OnDone result (λ granted. IfOk granted (IsOne self.now.word.slot.name)) }
-        ensures closed { OnDone result (λ granted. IfErr granted (λ error. (error ≡ AcquireError.Closed)
-            × HasState (λ n _. IsClosed n) held.new)) }
-        ensures serves { HasState (λ n q. ServesTheStarving n q.line) held.new }
-        ensures place { place.new ≡ key_of result }
-        ensures done { OnDone result (λ _. losses.new ≡ losses.old) }
-        ensures loses { OnUndone result (HasState (λ _ q. losses.new
-            ≡ losses_after losses.old (coming_of place.old q.line)) held.old) }
-        ensures none { OnUndone result
-            (HasState (λ _ q. coming_of place.old q.line ≡ Notified) held.old
-            → HasState (λ n _. free_of n ≡ 0) held.new) }
-        ensures waits { OnUndone result
-            (HasState (λ _ q. coming_of place.old q.line ≡ New) held.old
-            → HasState (λ n _. NoneFor false n) held.new) }
-        ensures refused { OnRefused result (losses.new ≡ losses.old) }
-        ensures exchanged { Attempts (X.exchanged exchange.now) on.old result on.new }
-    {
-        let arrival = self.word.come(held, place, exchange, on);
-        let coming = arrival.coming();
-        if let Coming::Waits(key) = coming {
-            return Attempted::Waits(key);
-        }
-        match self.word.take_permit(rt, held, coming.is_notified()) {
-            Ok(permit) => Attempted::Done(Ok(permit)),
-            Err(TryAcquireError::Closed) => Attempted::Done(Err(AcquireError::Closed)),
-            Err(TryAcquireError::NoPermits) => match self
-                .word
-                .lose(held, place, losses, arrival, exchange, on)
-            {
-                Ok(key) => Attempted::Waits(key),
-                Err(error) => Attempted::Refused(error),
-            },
-        }
-    }
 }
 
 impl Waitable<Taker> for Semaphore {
@@ -346,8 +299,8 @@ impl Waitable<Taker> for Semaphore {
     ) -> Attempted<Result<Permit, AcquireError>, LockError> {
         let (_, mut held) = self.word.take(rt);
         let Contender { place, losses } = &mut request.contender;
-        let attempted = self.attempt_held(rt, &mut held, place, losses, exchange, on);
-        self.word.put_back(rt, held);
+        let attempted = attempt_held(rt, &mut held, place, losses, exchange, on);
+        held.put_back(rt);
         attempted
     }
 
@@ -357,12 +310,9 @@ impl Waitable<Taker> for Semaphore {
         request: &mut Taker,
     ) -> Result<Option<Result<Permit, AcquireError>>, LockError> {
         let (_, mut held) = self.word.take(rt);
-        let coming = self
-            .word
-            .leave(&mut held, &mut request.contender.place)
-            .coming();
-        let permit = self.word.take_permit(rt, &mut held, coming.is_notified());
-        self.word.put_back(rt, held);
+        let coming = held.leave(&mut request.contender.place).coming();
+        let permit = held.take_permit(rt, coming.is_notified());
+        held.put_back(rt);
         Ok(granted(permit))
     }
 }
@@ -388,8 +338,8 @@ impl Obtainable<Taker> for Semaphore {
     fn give_up<R: Wait>(&self, rt: &R, request: &mut Taker) {
         if request.is_waiting() {
             let (_, mut held) = self.word.take(rt);
-            self.word.leave(&mut held, &mut request.contender.place);
-            self.word.put_back(rt, held);
+            held.leave(&mut request.contender.place);
+            held.put_back(rt);
         }
     }
 }
@@ -416,5 +366,48 @@ fn granted(taken: Result<Permit, TryAcquireError>) -> Option<Result<Permit, Acqu
         Ok(permit) => Some(Ok(permit)),
         Err(TryAcquireError::Closed) => Some(Err(AcquireError::Closed)),
         Err(TryAcquireError::NoPermits) => None,
+    }
+}
+
+// Attempts for a contender with the queue out, and has a contender that finds no permit wait at the end of the queue.
+fn attempt_held<C, X: TaskExchange<Task, C>, R: Wait>(
+    rt: &R,
+    held: &mut Held<'_, Competing<Permits>, ()>,
+    place: &mut Option<Key>,
+    losses: &mut u32,
+    exchange: &X,
+    on: &mut C,
+) -> Attempted<Result<Permit, AcquireError>, LockError>
+    requires stands { HasState (λ n q. Stands n q.line) held.old }
+    ensures of { held.new.word ≡ held.old.word }
+    ensures own { OnDone result (λ granted. IfOk granted (IsOne held.old.word.now.slot.name)) }
+    ensures closed { OnDone result (λ granted. IfErr granted (λ error. (error ≡ AcquireError.Closed)
+        × HasState (λ n _. IsClosed n) held.new)) }
+    ensures serves { HasState (λ n q. ServesTheStarving n q.line) held.new }
+    ensures place { place.new ≡ key_of result }
+    ensures done { OnDone result (λ _. losses.new ≡ losses.old) }
+    ensures loses { OnUndone result (HasState (λ _ q. losses.new
+        ≡ losses_after losses.old (coming_of place.old q.line)) held.old) }
+    ensures none { OnUndone result
+        (HasState (λ _ q. coming_of place.old q.line ≡ Notified) held.old
+        → HasState (λ n _. free_of n ≡ 0) held.new) }
+    ensures waits { OnUndone result
+        (HasState (λ _ q. coming_of place.old q.line ≡ New) held.old
+        → HasState (λ n _. NoneFor false n) held.new) }
+    ensures refused { OnRefused result (losses.new ≡ losses.old) }
+    ensures exchanged { Attempts (X.exchanged exchange.now) on.old result on.new }
+{
+    let arrival = held.come(place, exchange, on);
+    let coming = arrival.coming();
+    if let Coming::Waits(key) = coming {
+        return Attempted::Waits(key);
+    }
+    match held.take_permit(rt, coming.is_notified()) {
+        Ok(permit) => Attempted::Done(Ok(permit)),
+        Err(TryAcquireError::Closed) => Attempted::Done(Err(AcquireError::Closed)),
+        Err(TryAcquireError::NoPermits) => match held.lose(place, losses, arrival, exchange, on) {
+            Ok(key) => Attempted::Waits(key),
+            Err(error) => Attempted::Refused(error),
+        },
     }
 }

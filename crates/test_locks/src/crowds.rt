@@ -81,7 +81,7 @@ fn a_few_are_woken_at_a_time(rt: HostRuntime) {
     };
     let word = Word::new(0, crowd, ());
     let (_, held) = word.take(&rt);
-    word.put_back(&rt, held);
+    held.put_back(&rt);
     check(
         &rt,
         "woken each time that it was out",

@@ -3,7 +3,7 @@ ghost use Rattle.std.specs.Prelude.{◌≡◌};
 ghost use Rattle.event_wait.specs.Rounds.{gives_what, tries_for};
 ghost use Rattle.event_locks.specs.Losses.{LosesOnceAtMost};
 
-use super::{Loan, Mutex, Right};
+use super::{Loan, Mutex, Right, attempt_held};
 use crate::lending::Lender;
 use crate::taker::Taker;
 use event_queue::TaskExchange;
@@ -34,11 +34,10 @@ impl<'a, T: Drop> Waitable<Taker> for Lender<'a, Mutex<T>> {
         exchange: &X,
         on: &mut C,
     ) -> Attempted<Right<'a, T>, LockError> {
-        let mutex = self.lock;
-        let (_, mut held) = mutex.word.take(rt);
+        let (_, mut held) = self.lock.word.take(rt);
         let Contender { place, losses } = &mut request.contender;
-        let attempted = mutex.attempt_held(rt, &mut held, place, losses, exchange, on);
-        mutex.word.put_back(rt, held);
+        let attempted = attempt_held(rt, &mut held, place, losses, exchange, on);
+        held.put_back(rt);
         attempted
     }
 
@@ -47,11 +46,10 @@ impl<'a, T: Drop> Waitable<Taker> for Lender<'a, Mutex<T>> {
         rt: &R,
         request: &mut Taker,
     ) -> Result<Option<Right<'a, T>>, LockError> {
-        let word = &self.lock.word;
-        let (_, mut held) = word.take(rt);
-        let coming = word.leave(&mut held, &mut request.contender.place).coming();
-        let lent = word.take_value(rt, &mut held, coming.is_notified());
-        word.put_back(rt, held);
+        let (_, mut held) = self.lock.word.take(rt);
+        let coming = held.leave(&mut request.contender.place).coming();
+        let lent = held.take_value(rt, coming.is_notified());
+        held.put_back(rt);
         Ok(lent)
     }
 }
@@ -72,10 +70,9 @@ impl<'a, T: Drop> Obtainable<Taker> for Lender<'a, Mutex<T>> {
 
     fn give_up<R: Wait>(&self, rt: &R, request: &mut Taker) {
         if request.is_waiting() {
-            let word = &self.lock.word;
-            let (_, mut held) = word.take(rt);
-            word.leave(&mut held, &mut request.contender.place);
-            word.put_back(rt, held);
+            let (_, mut held) = self.lock.word.take(rt);
+            held.leave(&mut request.contender.place);
+            held.put_back(rt);
         }
     }
 }

@@ -60,11 +60,11 @@ impl<'a, T, K: Right<Task>> Waitable<Place<K>> for Lender<'a, RwLock<T>> {
         let lock = self.lock;
         let (_, mut held) = lock.word.take(rt);
         let attempted = match request.key {
-            Some(key) => lock.word.come_waiting(rt, &mut held, key, exchange, on),
-            None => lock.word.come_newly(rt, &mut held, exchange, on),
+            Some(key) => held.come_waiting(rt, key, exchange, on),
+            None => held.come_newly(rt, exchange, on),
         };
         request.key = attempted.key();
-        lock.word.put_back(rt, held);
+        held.put_back(rt);
         attempted
     }
 
@@ -76,10 +76,10 @@ impl<'a, T, K: Right<Task>> Waitable<Place<K>> for Lender<'a, RwLock<T>> {
         let lock = self.lock;
         let (_, mut held) = lock.word.take(rt);
         let grant = match request.key.take() {
-            Some(key) => lock.word.come_or_leave(rt, &mut held, key),
-            None => lock.word.count_newcomer(rt, &mut held),
+            Some(key) => held.come_or_leave(rt, key),
+            None => held.count_newcomer(rt),
         };
-        lock.word.put_back(rt, held);
+        held.put_back(rt);
         Ok(grant)
     }
 }
@@ -102,10 +102,9 @@ impl<'a, T, K: Right<Task>> Obtainable<Place<K>> for Lender<'a, RwLock<T>> {
     // One that was let in goes, and the next is let in.
     fn give_up<R: Wait>(&self, rt: &R, request: &mut Place<K>) {
         if let Some(key) = request.key.take() {
-            let word = &self.lock.word;
-            let (_, mut held) = word.take(rt);
-            word.leave::<K>(&mut held, key);
-            word.put_back(rt, held);
+            let (_, mut held) = self.lock.word.take(rt);
+            held.leave::<K>(key);
+            held.put_back(rt);
         }
     }
 }
