@@ -2,11 +2,11 @@
 use event_locks::{Barrier, Mutex, OnceCell, RwLock, Semaphore};
 use std::mem::size_of;
 
-const _: () = prove!(size_of::<Mutex<u64>>() == 152);
+const _: () = prove!(size_of::<Mutex<u64>>() == 168);
 
-const _: () = prove!(size_of::<RwLock<u64>>() == 200);
+const _: () = prove!(size_of::<RwLock<u64>>() == 216);
 
-const _: () = prove!(size_of::<Semaphore>() == 128);
+const _: () = prove!(size_of::<Semaphore>() == 144);
 
 const _: () = prove!(size_of::<Barrier>() == 112);
 
