@@ -1,4 +1,4 @@
-//! Locks that lend where their value lies.
+//! Locks that lend the place where their value lies.
 ghost use Rattle.std.specs.Prelude.{◌≡◌};
 
 use event_wait::Hold;
@@ -11,7 +11,7 @@ pub(crate) struct Lender<'a, L> {
     pub(crate) lock: &'a L,
 }
 
-/// Borrows a lock that lends, and the runtime.
+/// A borrow of a lock that lends, and of the runtime.
 #[derive(Drop)]
 pub(crate) struct Lending<'a, L, R> {
     pub(crate) lender: Lender<'a, L>,

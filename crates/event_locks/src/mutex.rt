@@ -57,10 +57,10 @@ pub struct Mutex<T> {
     source: WakerSource,
 }
 
-/// The right to the value of a mutex, and to where it lies.
+/// The right to the value of a mutex, and to the place where the value lies.
 pub(crate) type Right<'a, T> = Lent<'a, Competing<OneValue>, Lodging<T>>;
 
-/// The value of a mutex, moved out, and that it is to be put back.
+/// The value of a mutex, moved out, with a proof that the value is to be put back.
 pub(crate) struct Loan<T> {
     value: T,
     parked: Parked,
@@ -84,8 +84,8 @@ impl<T: Drop> Mutex<T> {
     /// Returns how many waiters are notified, waiting and starving, and whether the value is free, all at one moment of this
     /// call.
     ///
-    /// One is free while nobody has the value. The call may block until the queue, which another thread may be using, is put
-    /// back.
+    /// The count `free` is 1 while nobody has the value. The call may block until the queue, which another thread may be using,
+    /// is put back.
     pub fn counts<R: Wait>(&self, rt: &R) -> Counts
         ensures nobody_waits_in_vain { result.notified < result.free → result.waiting ≡ 0 }
         ensures shuts { (0 < result.starving → result.is_shut ≡ true)
@@ -181,7 +181,7 @@ impl<T: Drop> Mutex<T> {
         word.into_value()
     }
 
-    // Moves the value out, and gives up the right to its place.
+    // Moves the value out, and gives up the right to the place of the value.
     fn lend_out<R: Wait>(&self, rt: &R, lent: Right<'_, T>) -> Loan<T>
         requires { lent.name ≡ self.now.word.slot.name }
         ensures { result.parked ≡ self.now.word.slot.name }
@@ -194,7 +194,8 @@ impl<T: Drop> Mutex<T> {
         }
     }
 
-    // Where the value does not lie in its place, the right goes back.
+    // Takes the right to the value, if a newcomer may, and moves the value out. Gives the right back, and returns `None`, if
+    // the value does not lie in its place.
     #[inline(always)]
     fn try_value<'a, R: Wait>(&'a self, rt: &R) -> Option<(Right<'a, T>, T)>
         ensures { IfSome result (λ got. got.0.name ≡ self.now.word.slot.name) }
@@ -219,7 +220,7 @@ impl<T: Drop> Mutex<T> {
         })
     }
 
-    // Puts a value back that was moved out.
+    // Puts back a value that was moved out, and gives up the right to it.
     fn take_back<R: Wait>(&self, rt: &R, loan: Loan<T>)
         requires { loan.parked ≡ self.now.word.slot.name }
     {
@@ -230,7 +231,7 @@ impl<T: Drop> Mutex<T> {
     }
 }
 
-// Moves the value out for one that has the right to its place.
+// Moves the value out. The caller has the right to the place of the value.
 #[inline(always)]
 fn value_of<T, R: Wait>(rt: &R, lent: &mut Right<'_, T>) -> T
     ensures { lent.new.name ≡ lent.old.name }
@@ -241,7 +242,8 @@ fn value_of<T, R: Wait>(rt: &R, lent: &mut Right<'_, T>) -> T
     }
 }
 
-// The same where it was not seen there. It is a function of its own, so that what is there is taken in a few instructions.
+// Moves the value out as `value_of` does, where the value was not seen in its place: looks again until the value lies there.
+// This is a function of its own, so that `value_of` takes a few instructions where the value lies in its place.
 #[cold]
 #[inline(never)]
 fn wait_for_value<T, R: Wait>(rt: &R, lent: &mut Right<'_, T>) -> T

@@ -1,4 +1,4 @@
-//! What a poll obtained, as a guard.
+//! Making a guard of what a poll obtained.
 ghost use Rattle.std.specs.Prelude.{◌≡◌, IfOk};
 ghost use Rattle.futures.specs.Poll.{IfReady, OnPending};
 ghost use Rattle.futures.specs.declared.task.Poll.TheVariants.{Pending};
@@ -6,7 +6,7 @@ ghost use Rattle.futures.specs.declared.task.Poll.TheVariants.{Pending};
 use event_wait::LockError;
 use futures::task::Poll;
 
-/// Makes the guard of the hold and of what came with it, once the poll has them.
+/// Makes the guard of the hold and of the output, if the poll returned both. Else returns the error of the poll, or `Pending`.
 #[inline(always)]
 pub(crate) fn guarded<H, O, G, F: FnOnce(H, O) -> G>(
     polled: Poll<Result<(H, O), LockError>>,

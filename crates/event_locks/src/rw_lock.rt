@@ -40,7 +40,8 @@ pub struct RwLock<T> {
     source: WakerSource,
 }
 
-// The value of a read-write lock. Its type is private: else whoever has the lock could reach the slot that it lies in, by `Inside`.
+// The value of a read-write lock. The type is private: else any caller that has the lock could reach, by `Inside`, the slot in
+// which the value lies.
 #[derive(Drop)]
 pub(crate) struct Hidden<T> {
     value: T,
@@ -260,7 +261,8 @@ impl<T> RwLock<T> {
         value
     }
 
-    // A right that is parked, for a guard that shares the lock, if one may have it now.
+    // Takes a right for a guard that shares the lock, if the caller may have the right now, and parks the right. Returns `None`
+    // else.
     fn try_share<K: Right<Task>, R: Wait>(&self, rt: &R) -> Option<Share<K>>
         ensures { IfSome result (λ share. share ≡ self.now.word.slot.name) }
     {
@@ -270,7 +272,7 @@ impl<T> RwLock<T> {
 }
 
 impl<T> Debug for RwLock<T> {
-    /// Shows how many read and whether one writes, and not the value.
+    /// Shows how many readers have the value and whether a writer has it, and not the value.
     fn fmt<W: fmt::Write>(&self, f: &mut Formatter<W>) -> fmt::Result {
         let number = self.word.number();
         f.debug_struct("RwLock")

@@ -357,7 +357,8 @@ impl Debug for Semaphore {
     }
 }
 
-// What one that attempts is granted: permits, or that there never will be any.
+// Returns the answer with which an attempt ends the wait: the permits that the attempt took, or the error that the semaphore is
+// closed, so that there never will be a permit. Returns `None` if there was no permit for the waiter: the wait goes on.
 #[inline(always)]
 fn granted(taken: Result<Permit, TryAcquireError>) -> Option<Result<Permit, AcquireError>>
     ensures same { IfSome result (λ granted. IfOk granted (λ permit. taken ≡ Ok permit)) }

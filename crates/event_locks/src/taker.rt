@@ -1,15 +1,15 @@
-//! One that would take what a mutex or a semaphore has.
+//! Requests of waits for the value of a mutex, or for a permit of a semaphore.
 use event_word::Contender;
 
-/// One that would take the value of a mutex, or a permit: how often it lost, and its place in the queue, if it has one. Only a wait
-/// of this crate makes one, so nobody attempts or leaves in the place of another.
+/// The request of a wait for the value of a mutex, or for a permit: how often the wait lost, and its place in the queue, if it
+/// has one. Only a wait of this crate makes a request, so no caller attempts or leaves in the place of another.
 #[derive(Drop)]
 pub(crate) struct Taker {
     pub(crate) contender: Contender,
 }
 
 impl Default for Taker {
-    // One that has lost nothing, and waits in no queue.
+    // Makes the request of a wait that has lost nothing yet, and has no place in the queue.
     #[inline(always)]
     fn default() -> Self {
         Taker {
@@ -19,7 +19,7 @@ impl Default for Taker {
 }
 
 impl Taker {
-    /// Whether it has a place in the queue.
+    /// Returns whether the wait has a place in the queue.
     #[inline(always)]
     pub(crate) fn is_waiting(&self) -> bool {
         self.contender.is_waiting()

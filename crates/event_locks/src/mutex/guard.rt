@@ -1,4 +1,4 @@
-//! The value of a mutex, with one that has it.
+//! Guards that own the value of a mutex.
 ghost use Rattle.std.specs.Prelude.{◌≡◌, []};
 ghost use mir.Syntax.{named};
 ghost use Rattle.std.specs.Arc.{arc_value};
@@ -15,14 +15,14 @@ use std::ops::{Deref, DerefMut};
 use std::sync::{Arc, Wait};
 use std::time::Clock;
 
-// Where the value goes back.
+// The place to which a guard gives the value back, with the right to that place.
 struct Place<'a, T, R> {
     hold: Lending<'a, Mutex<T>, R>,
     lent: Right<'a, T>,
     ghost own: { lent.name ≡ hold.lender.lock.now.word.slot.name },
 }
 
-// The same, with a share of the mutex, by which it is found again.
+// The place to which a guard gives the value back that has a share of the mutex. The guard finds the place again by the share.
 struct PlaceArc<T, R> {
     hold: Shared<Mutex<T>, R>,
     parked: Parked,
@@ -70,7 +70,7 @@ impl<T: Drop, R: Wait + Clock + Drop> Model for MutexGuardArc<T, R> {
 }
 
 impl<'a, T: Drop, R: Wait + Clock> MutexGuard<'a, T, R> {
-    /// With the value, which was moved out.
+    /// Makes the guard of a value that was moved out.
     #[inline(always)]
     pub(crate) fn with(hold: Lending<'a, Mutex<T>, R>, lent: Right<'a, T>, value: T) -> Self
         requires { lent.name ≡ hold.lender.lock.now.word.slot.name }
@@ -81,7 +81,7 @@ impl<'a, T: Drop, R: Wait + Clock> MutexGuard<'a, T, R> {
         }
     }
 
-    /// Moves the value out.
+    /// Moves the value out, and makes its guard.
     #[inline(always)]
     pub(crate) fn new(hold: Lending<'a, Mutex<T>, R>, lent: Right<'a, T>) -> Self
         requires { lent.name ≡ hold.lender.lock.now.word.slot.name }

@@ -1,4 +1,4 @@
-//! How those that wait get the value of a mutex.
+//! How waiters get the value of a mutex.
 ghost use Rattle.std.specs.Prelude.{◌≡◌};
 ghost use Rattle.event_wait.specs.Rounds.{gives_what, tries_for};
 ghost use Rattle.event_locks.specs.Losses.{LosesOnceAtMost};
@@ -81,7 +81,7 @@ impl<T: Drop> TakesAny<Taker> for Lender<'_, Mutex<T>> {
     ghost all_fit = { λ _ _. tt };
 }
 
-// To a guard that shares the mutex the value itself goes.
+// A wait whose guard shares the mutex gets the value itself, moved out of its place.
 impl<T: Drop> Waitable<Taker> for Mutex<T> {
     type Output = Loan<T>;
 

@@ -1,4 +1,4 @@
-//! The value of a read-write lock, with those that have it.
+//! Guards of readers and writers of the value of a read-write lock.
 ghost use Rattle.std.specs.Prelude.{◌≡◌, ◌<◌, IfErr, IsSome, MatchResult, None, Option, Some};
 ghost use Rattle.std.specs.Arc.{arc_value};
 ghost use Rattle.event_word.specs.Held.{placed, placed_in};
@@ -16,12 +16,12 @@ use std::ops::{Deref, DerefMut};
 use std::sync::Wait;
 use std::time::Clock;
 
-// Where a right to write goes back.
+// Ties a right to write to the lock to which the guard gives the right back.
 impl<T, R> Ties for Lending<'_, RwLock<T>, R> {
     ghost ties = { λ hold name. hold.lender.lock.now.word.slot.name ≡ name };
 }
 
-// Where a right goes back that shares the lock.
+// Finds, in a shared lock, the slot to which a guard gives its right back.
 impl<T> Inside<Place<Hidden<T>>, Queues<Task>> for RwLock<T> {
     ghost finds = { λ lock. lock.word.slot };
 
@@ -30,7 +30,8 @@ impl<T> Inside<Place<Hidden<T>>, Queues<Task>> for RwLock<T> {
     }
 }
 
-// The right of one that shares the lock. A ghost field of the guard's own would stand in the way of its `deref_mut`.
+// The right of a guard that shares the lock. The right has a type of its own, because a ghost field of the guard would stand in
+// the way of the guard's `deref_mut`.
 pub(super) struct HeldArc<T, R, K: Right<Task>> {
     owned: OwnedRight<RwLock<T>, Hidden<T>>,
     seat: Seat,
@@ -60,7 +61,8 @@ impl<T, R: Wait, K: Right<Task>> HeldArc<T, R, K> {
         }
     }
 
-    // Takes the right by one compare-exchange, if a newcomer is admitted without the queues. An error has the lock.
+    // Takes the right by one compare-exchange, if the lock admits a newcomer without a look at the queues. Returns the lock, as
+    // an `Err`, else.
     #[inline(always)]
     pub(super) fn come(hold: Shared<RwLock<T>, R>) -> Result<Self, Shared<RwLock<T>, R>>
         requires right { 0 < K.RIGHT }
@@ -79,7 +81,7 @@ impl<T, R: Wait, K: Right<Task>> HeldArc<T, R, K> {
         }
     }
 
-    // Gives the right up. It is parked for a moment only where a waiter may have to be let in.
+    // Gives the right up. Parks the right for a moment only where a waiter may have to be let in.
     #[inline(always)]
     fn end(self)
     where
@@ -125,7 +127,8 @@ impl<T, R> HeldArc<T, R, Reading> {
         &self.owned.get().value.value
     }
 
-    // Upgrades by one compare-exchange, if the word shows no waiter and no other reader. An error has the right to read.
+    // Upgrades by one compare-exchange, if the word shows no waiter and no other reader. Returns the right to read, as an
+    // `Err`, else.
     #[inline(always)]
     fn upgrade(self) -> Result<HeldArc<T, R, Writing>, Self> {
         let HeldArc {
@@ -169,7 +172,7 @@ impl<T, R> HeldArc<T, R, Writing> {
         &mut self.owned.get_mut().value.value
     }
 
-    // Downgrades by one compare-exchange, if the word shows no waiter. An error has the right to write.
+    // Downgrades by one compare-exchange, if the word shows no waiter. Returns the right to write, as an `Err`, else.
     #[inline(always)]
     fn downgrade(self) -> Result<HeldArc<T, R, Reading>, Self> {
         let HeldArc {

@@ -1,4 +1,4 @@
-//! One that would read or write.
+//! Requests of readers and writers.
 ghost use Rattle.std.specs.Prelude.{◌≡◌};
 ghost use Rattle.event_wait.specs.Rounds.{gives_what, tries_for};
 
@@ -10,7 +10,7 @@ use event_word::{Grant, Right, Share};
 use std::marker::{Model, PhantomData};
 use std::sync::Wait;
 
-/// The place of one that would read or write, in its queue, if it has one.
+/// The request of a reader or a writer: its place in the queue of its kind, if it has one.
 #[derive(Drop)]
 pub(crate) struct Place<K> {
     key: Option<Key>,
@@ -24,7 +24,7 @@ impl<K> Model for Place<K> {
 }
 
 impl<K> Default for Place<K> {
-    // None.
+    // Makes the request of a wait that has no place in a queue.
     #[inline(always)]
     fn default() -> Self {
         Place {
@@ -99,7 +99,7 @@ impl<'a, T, K: Right<Task>> Obtainable<Place<K>> for Lender<'a, RwLock<T>> {
         lock.word.attempt(rt)
     }
 
-    // One that was let in goes, and the next is let in.
+    // Has the waiter leave its queue. A waiter that was let in already gives up its right, and the next waiter is let in.
     fn give_up<R: Wait>(&self, rt: &R, request: &mut Place<K>) {
         if let Some(key) = request.key.take() {
             let (_, mut held) = self.lock.word.take(rt);
@@ -113,7 +113,7 @@ impl<T, K: Right<Task>> TakesAny<Place<K>> for Lender<'_, RwLock<T>> {
     ghost all_fit = { λ _ _. tt };
 }
 
-// The right for a guard that shares the lock comes parked.
+// A wait whose guard shares the lock gets its right parked.
 impl<T, K: Right<Task>> Waitable<Place<K>> for RwLock<T> {
     type Output = Share<K>;
 

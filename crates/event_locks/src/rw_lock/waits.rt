@@ -23,8 +23,8 @@ use std::time::{Clock, Duration, Instant};
 /// is then waited on keeps its place in the queue. A `Read` that is dropped while it waits leaves the queue; if it was let in,
 /// it gives the right back.
 ///
-/// A `Read` that was let in has the lock, whether it is polled or not. So one that is kept unpolled keeps others out, for
-/// example as one arm of a `select` whose other arm asks for the same lock.
+/// A `Read` that was let in has the lock, whether it is polled or not. So a `Read` that is kept unpolled keeps other callers
+/// out, for example as one arm of a `select` whose other arm asks for the same lock.
 ///
 /// A task awaits a `Read`. The first `?` propagates an error of the executor, the second an error of the wait:
 ///
@@ -181,8 +181,8 @@ impl<T: Drop, R: Wait + Clock + Drop> Future for ReadArc<T, R> {
 /// and is then waited on keeps its place in the queue. A `Write` that is dropped while it waits leaves the queue; if it was let
 /// in, it gives the right back.
 ///
-/// A `Write` that was let in has the lock, whether it is polled or not. So one that is kept unpolled keeps others out, for
-/// example as one arm of a `select` whose other arm asks for the same lock.
+/// A `Write` that was let in has the lock, whether it is polled or not. So a `Write` that is kept unpolled keeps other callers
+/// out, for example as one arm of a `select` whose other arm asks for the same lock.
 ///
 /// A task awaits a `Write`. The first `?` propagates an error of the executor, the second an error of the wait:
 ///
@@ -335,10 +335,10 @@ impl<T: Drop, R: Wait + Clock + Drop> Future for WriteArc<T, R> {
     }
 }
 
-// A wait for a right by a guard that shares the lock.
+// A wait for a right, which ends with a guard that shares the lock.
 type SharedWait<T, R, K> = Obtaining<RwLock<T>, Place<K>, Shared<RwLock<T>, R>>;
 
-// Takes the right that is waited for by one step, if the wait is in no queue and a newcomer is admitted. An error is the wait.
+// Takes the right by one step, if the wait is in no queue and the lock admits a newcomer. Returns the wait, as an `Err`, else.
 #[inline(always)]
 fn come_first<T: Drop, R: Wait + Clock + Drop, K: Right<Task>>(
     wait: SharedWait<T, R, K>,
@@ -354,7 +354,7 @@ fn come_first<T: Drop, R: Wait + Clock + Drop, K: Right<Task>>(
     }
 }
 
-// Takes the right as `come_first` does, for a poll. A wait that gets nothing stays as it was.
+// Takes the right as `come_first` does, for a poll. Returns `None` else, and the wait stays as it was.
 #[inline(always)]
 fn come_at_poll<T: Drop, R: Wait + Clock + Drop, K: Right<Task>>(
     wait: &mut SharedWait<T, R, K>,

@@ -193,7 +193,7 @@ impl<R: Wait + Clock + Drop> Future for AcquireArc<R> {
     }
 }
 
-// The hold and the permit that came with it, once the poll has them.
+// Returns the hold and the permit, if the poll returned both. Else returns why there is no permit, or `Pending`.
 #[inline(always)]
 fn permitted<H: Drop>(
     polled: Poll<Result<(H, Result<Permit, AcquireError>), LockError>>,
