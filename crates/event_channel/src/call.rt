@@ -12,16 +12,16 @@ use event_wait::{Attempted, Task};
 use std::collections::LinkedList;
 use std::marker::Model;
 
-// A hand of a channel's lock, which may have a place in a queue there.
+// A hand of a channel's lock. The hand may have a place in a queue of the channel.
 pub(crate) type LockHand<T> = Hand<Messages<T, Task>, ChannelCall<T>>;
 
-// The hand of one that waits, between its calls.
+// The hand of a waiter, between the waiter's calls.
 pub(crate) type RestingHand<T> = IdleHand<Messages<T, Task>, ChannelCall<T>>;
 
 /// A caller's right to make calls on one channel, of no bytes. It can't be dropped: it ends by its [`end`](ChannelHand::end).
 ///
-/// A contract sees it as the hand of the channel's lock: the history that it has seen, and its own calls in it. Between two
-/// calls of its owner it waits in no queue.
+/// A contract sees a `ChannelHand` as the hand of the channel's lock: the history that the hand has seen, and the hand's own
+/// calls in that history. Between two calls of its owner the hand waits in no queue.
 ///
 /// A hand is made, lent to a function that makes calls with it, and ended:
 ///
@@ -50,7 +50,7 @@ impl<T> Model for ChannelHand<T> {
 }
 
 impl<T> ChannelHand<T> {
-    // Of a hand that waits in no queue.
+    // Makes a `ChannelHand` of a hand that waits in no queue.
     #[inline(always)]
     pub(crate) fn of(hand: LockHand<T>) -> Self
         requires { WaitsNowhere (known_by hand).mine }
@@ -59,7 +59,7 @@ impl<T> ChannelHand<T> {
         ChannelHand { hand }
     }
 
-    // The hand alone.
+    // Returns the hand of the channel's lock alone.
     #[inline(always)]
     pub(crate) fn into_hand(self) -> LockHand<T>
         ensures hand { result ≡ self }
@@ -69,7 +69,7 @@ impl<T> ChannelHand<T> {
         hand
     }
 
-    /// Ends the hand. It is nothing when a program runs.
+    /// Ends the hand. The call does nothing when a program runs.
     #[inline(always)]
     pub fn end(self) {
         self.into_hand().end();
@@ -78,26 +78,26 @@ impl<T> ChannelHand<T> {
 
 /// A call on the state under a channel's lock, with its reply. No value of it is made when a program runs.
 ///
-/// A key is that of one that has a place in a queue of those that wait. A truth value says whether a receiver is a stream.
+/// A key is that of a waiter, which has a place in a queue. A truth value says whether a receiver is a stream.
 pub enum ChannelCall<T> {
     /// A message is sent, if the channel is open and not full.
     Send(T, Result<(), SendReason>),
-    /// A message is sent, if the channel is open. If it is full the first of all goes out.
+    /// A message is sent, if the channel is open. If the channel is full its first message goes out.
     ForceSend(T, Result<Option<T>, SendReason>),
-    /// A message is sent by one that waits where the channel is full, and else is in the queue no more.
+    /// A message is sent by a sender that waits where the channel is full, and else is in the queue no more.
     SendOrWait(T, Option<Key>, Attempted<Result<(), SendReason>, ListenError>),
-    /// A message is sent, if the channel is open and not full, by one that leaves the queue in any case.
+    /// A message is sent, if the channel is open and not full, by a sender that leaves the queue in any case.
     SendOrLeave(T, Option<Key>, Result<(), SendReason>),
     /// A sender leaves the queue.
     LeaveSenders(Option<Key>),
     /// The first message is received, if there is one.
     Receive(Result<T, TryRecvError>),
-    /// The first message is received by one that waits where there is none, and else is in the queue no more. `None` is the
-    /// end: the channel is empty and closed.
+    /// The first message is received by a receiver that waits where there is no message, and else is in the queue no more.
+    /// `None` is the end: the channel is empty and closed.
     ReceiveOrWait(bool, Option<Key>, Attempted<Option<T>, ListenError>),
-    /// The first message is received, if there is one, by one that leaves the queue in any case.
+    /// The first message is received, if there is one, by a receiver that leaves the queue in any case.
     ReceiveOrLeave(bool, Option<Key>, Result<T, TryRecvError>),
-    /// These messages are received, one at least, by one that leaves the queue.
+    /// These messages are received, one at least, by a receiver that leaves the queue.
     ReceiveMany(LinkedList<T>, Option<Key>),
     /// A receiver leaves the queue.
     LeaveReceivers(bool, Option<Key>),
@@ -111,8 +111,8 @@ pub enum ChannelCall<T> {
     Len(usize),
 }
 
-/// A channel starts open, without messages, with nobody that waits, and of the capacity that was asked for. A hand that waits in
-/// a queue comes by that place next, and it ends once it has left.
+/// A channel starts open, without messages and waiters, and with the capacity that was asked for. A hand that waits in a queue
+/// makes its next call by that place, and ends only once it has left the queue.
 impl<T, W> Steps for Messages<T, W> {
     type Call = ChannelCall<T>;
 

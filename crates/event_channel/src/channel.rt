@@ -1,4 +1,4 @@
-//! What both sides share.
+//! The channel that senders and receivers share.
 ghost use Rattle.std.specs.Prelude.{◌≡◌, None, Option, Some, IfErr, IfOk, IsSome, false};
 ghost use Rattle.event_channel.specs.Calls.{answer_of, channel_machine};
 ghost use Rattle.event_channel.specs.Errors.{IsUnsent};
@@ -36,7 +36,7 @@ pub enum ChannelError {
     Memory(#[from] AllocError),
 }
 
-/// The messages and all that wait, under one lock, and how many handles there are.
+/// The messages and all waiters, under one lock, and how many handles there are.
 #[derive(Drop)]
 pub(crate) struct Channel<T> {
     pub(crate) lock: Lock<Messages<T, Task>>,
@@ -67,7 +67,7 @@ impl<T, R> Model for Link<T, R> {
 }
 
 impl<T: Drop, R: Clone + Drop> Link<T, R> {
-    /// Another one to the same channel.
+    /// Makes another link to the same channel.
     pub(crate) fn try_clone(&self) -> Result<Self, AllocError>
         ensures { IfOk result (λ link. link ≡ self.now) }
     {
@@ -79,11 +79,11 @@ impl<T: Drop, R: Clone + Drop> Link<T, R> {
     }
 }
 
-/// How many handles there are of one side.
+/// The number of handles of one side.
 #[derive(Drop)]
 pub(crate) struct Handles(AtomicUsize);
 
-/// Why a wait was refused.
+/// Returns why a wait was refused.
 pub(crate) fn wait_error(refused: Refused<ListenError>) -> WaitError {
     match refused {
         Refused::Memory => WaitError::Memory(AllocError),
@@ -92,7 +92,7 @@ pub(crate) fn wait_error(refused: Refused<ListenError>) -> WaitError {
 }
 
 impl<T: Drop> Channel<T> {
-    /// An open channel without messages, with one handle of each side.
+    /// Makes an open channel without messages, with one handle of each side.
     pub(crate) fn new(alloc: Global, capacity: Option<usize>) -> Result<Self, AllocError>
         ensures capacity { IfOk result (λ channel. channel.lock.start ≡ capacity) }
     {
@@ -107,7 +107,7 @@ impl<T: Drop> Channel<T> {
         })
     }
 
-    /// A hand that made no call yet. It is one load.
+    /// Makes a hand that made no call yet. The call is one load.
     #[inline(always)]
     pub(crate) fn hand(&self) -> ChannelHand<T>
         ensures { IsOf self.now.lock.table result
@@ -116,7 +116,7 @@ impl<T: Drop> Channel<T> {
         ChannelHand::of(self.lock.hand())
     }
 
-    /// A new hand, which has seen as much as that one.
+    /// Makes a new hand, which has seen as much as `hand` has.
     pub(crate) fn fork(&self, hand: &mut ChannelHand<T>) -> ChannelHand<T>
         requires { IsOf self.now.lock.table hand.old }
         ensures hand { SameTable hand.old hand.new
@@ -127,7 +127,7 @@ impl<T: Drop> Channel<T> {
         ChannelHand::of(self.lock.fork(&mut hand.hand))
     }
 
-    /// Has a hand learn what another one saw and did, which is no more.
+    /// Has `hand` learn what the hand `other` saw and did, and ends `other`.
     pub(crate) fn join(&self, hand: &mut ChannelHand<T>, other: ChannelHand<T>)
         requires here { IsOf self.now.lock.table hand.old }
         requires there { IsOf self.now.lock.table other }
@@ -138,7 +138,7 @@ impl<T: Drop> Channel<T> {
         self.lock.join(&mut hand.hand, other.into_hand());
     }
 
-    /// Puts a message behind all others, if the channel is open, and takes the first out if it is full.
+    /// Puts a message behind all others, if the channel is open, and takes the first message out if the channel is full.
     pub(crate) fn force_send<R: Wait>(
         &self,
         rt: &R,
@@ -164,7 +164,7 @@ impl<T: Drop> Channel<T> {
         answer
     }
 
-    /// Receives the first message, if one is there for newcomers.
+    /// Receives the first message, if it is there for newcomers.
     #[inline(always)]
     pub(crate) fn try_receive<R: Wait>(
         &self,
@@ -182,8 +182,8 @@ impl<T: Drop> Channel<T> {
         received
     }
 
-    /// Drops the messages that wait at a closed channel, each once the lock is given back: what a message drops may call the
-    /// channel.
+    /// Drops the messages that wait at a closed channel, each once the lock is given back, because the drop of a message may
+    /// call the channel.
     pub(crate) fn drop_messages<R: Wait>(&self, rt: &R, hand: &mut ChannelHand<T>)
         requires { IsOf self.now.lock.table hand.old }
         ensures { SameTable hand.old hand.new }
@@ -193,8 +193,8 @@ impl<T: Drop> Channel<T> {
         }
     }
 
-    /// Attempts to send, and waits until then. A message that is not sent is where it was. In any case its hand waits nowhere
-    /// then.
+    /// Attempts to send, and waits until an attempt ends the wait or the limit has passed. A message that is not sent stays in
+    /// `sending`. In any case the hand waits in no queue afterwards.
     #[inline(always)]
     pub(crate) fn wait_to_send<R: Wait + Clock>(
         &self,
@@ -218,7 +218,8 @@ impl<T: Drop> Channel<T> {
         self.lock.obtain(rt, alloc, hand, sending, limit)
     }
 
-    /// Attempts to receive, and waits until then. In any case its hand waits nowhere then.
+    /// Attempts to receive, and waits until an attempt ends the wait or the limit has passed. In any case the hand waits in no
+    /// queue afterwards.
     #[inline(always)]
     pub(crate) fn wait_to_receive<R: Wait + Clock>(
         &self,
@@ -242,7 +243,7 @@ impl<T: Drop> Channel<T> {
         self.lock.obtain(rt, alloc, hand, receiving, limit)
     }
 
-    /// Leaves the queue of the senders, if it is there.
+    /// Takes a sender out of the queue of the senders, if the sender is there.
     pub(crate) fn stop_sending<R: Wait>(
         &self,
         rt: &R,
@@ -257,7 +258,7 @@ impl<T: Drop> Channel<T> {
         self.lock.give_up(rt, hand, sending);
     }
 
-    /// Leaves the queue in which it receives, if it is there.
+    /// Takes a receiver or stream out of its queue, if the receiver or stream is there.
     pub(crate) fn stop_receiving<R: Wait>(
         &self,
         rt: &R,
@@ -273,7 +274,7 @@ impl<T: Drop> Channel<T> {
         self.lock.give_up(rt, hand, receiving);
     }
 
-    /// Closes the channel and wakes all that wait, or returns `false` if it is closed already.
+    /// Closes the channel and wakes all waiters. Returns `false` if the channel is closed already.
     pub(crate) fn close<R: Wait>(&self, rt: &R, hand: &mut ChannelHand<T>) -> bool
         requires { IsOf self.now.lock.table hand.old }
         ensures hand { SameTable hand.old hand.new }
@@ -291,12 +292,12 @@ impl<T: Drop> Channel<T> {
         self.ask(rt, IsFull)
     }
 
-    /// How many messages wait.
+    /// Returns how many messages wait.
     pub(crate) fn len<R: Wait>(&self, rt: &R) -> usize {
         self.ask(rt, Len)
     }
 
-    // One call by a hand of its own.
+    // Makes one call by a hand that is made for it.
     #[inline(always)]
     fn ask<K: Step<Messages<T, Task>, ()>, R: Wait>(&self, rt: &R, step: K) -> K::Reply
         requires may { K.may step }
@@ -315,7 +316,7 @@ impl Handles {
         Handles(AtomicUsize::new(1))
     }
 
-    /// One handle more.
+    /// Adds one handle. An error says that no further handle could be counted.
     pub(crate) fn add(&self) -> Result<(), AllocError> {
         let added = self.0.fetch_update(
             Ordering::SeqCst,
@@ -328,7 +329,7 @@ impl Handles {
         }
     }
 
-    /// One handle more, if there is one. It answers whether there was.
+    /// Adds one handle, if there is a handle still. Returns whether it did.
     pub(crate) fn revive(&self) -> bool {
         let revived = self.0.fetch_update(
             Ordering::SeqCst,
@@ -342,7 +343,7 @@ impl Handles {
         revived.is_ok()
     }
 
-    /// One handle less. Returns whether none is left.
+    /// Takes one handle away. Returns whether no handle is left.
     pub(crate) fn remove(&self) -> bool {
         self.0.fetch_sub(1, Ordering::SeqCst) == 1
     }

@@ -33,7 +33,7 @@ pub enum SendReason {
     /// The channel is closed.
     #[error("the channel is closed")]
     Closed,
-    /// As many messages wait as there may be, or each free place is due to a notified send while one
+    /// As many messages wait as there may be, or each free place is due to a notified send while a send
     /// [starves](crate::PATIENCE). Only [`try_send`](crate::Sender::try_send) returns this.
     #[error("there is no room for the message")]
     Full,
@@ -67,7 +67,7 @@ pub struct SendError<T> {
 /// Why [`try_recv`](crate::Receiver::try_recv) received no message.
 #[derive(Clone, Copy, Debug, PartialEq, Eq, Error)]
 pub enum TryRecvError {
-    /// No message waits, or each that does is due to a notified receive while one [starves](crate::PATIENCE).
+    /// No message waits, or each message that waits is due to a notified receive while a receive [starves](crate::PATIENCE).
     #[error("there is no message to receive")]
     Empty,
     /// The channel is closed and empty, so no message will come.
@@ -88,8 +88,8 @@ pub enum RecvError {
     /// The channel is closed and empty, so no message will come.
     #[error("the channel is empty and closed")]
     Closed,
-    /// There is no message, and the caller could not wait for one; or `recv_many` found no memory for a message, whether or not one
-    /// waits.
+    /// There is no message, and the caller could not wait for one; or `recv_many` found no memory for a message, whether or not
+    /// a message waits.
     #[error("{0}")]
     WaitFailed(#[from] WaitError),
 }

@@ -20,7 +20,7 @@ use std::time::Clock;
 #[derive(Drop)]
 pub struct Iter<'a, T: Drop, R: Wait + Clock + Clone> {
     receiver: &'a Receiver<T, R>,
-    // The prover's measure of a loop over it.
+    // The prover's measure of a loop over the iterator.
     turns: Forever<'a, R>,
 }
 

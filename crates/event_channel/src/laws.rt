@@ -155,8 +155,8 @@ pub fn capacity_is_kept<T, W>()
 ///
 /// While a receiver starves, no call raises the number of notified receivers above that of messages any further, and a notified
 /// receiver that finds nothing lowers it by one. So a starving receiver loses at most as often as more receivers were notified
-/// than there were messages when it began to starve, as long as each notified receiver tries again. One that does not try again
-/// starves only so long: [`newcomers_go_on`] has the bound.
+/// than there were messages when it began to starve, as long as each notified receiver tries again. A starving receiver that
+/// does not try again starves only so long: [`newcomers_go_on`] has the bound.
 pub fn starving_receivers_are_served<T, W>()
     ensures no_more_in_vain { (before after : State T W) (c : ChannelCall T)
         → NoMoreInVain c before after }
@@ -164,8 +164,9 @@ pub fn starving_receivers_are_served<T, W>()
         → LosesByThose key waits before after }
 {}
 
-/// States the same of senders and free places: while a sender starves, no call but a forced send raises the number of notified
-/// senders above that of free places any further, and a notified sender that finds no room lowers it by one.
+/// States of senders and free places what [`starving_receivers_are_served`] states of receivers and messages: while a sender
+/// starves, no call but a forced send raises the number of notified senders above that of free places any further, and a
+/// notified sender that finds no room lowers it by one.
 pub fn starving_senders_are_served<T, W>()
     ensures no_more_in_vain { (before after : State T W) (c : ChannelCall T)
         → NoMoreSendersInVain c before after }

@@ -24,23 +24,25 @@ use turns::{forbear, is_told, left_for_newcomers, strike};
 pub(crate) use waits::put_back;
 
 /// The state of a channel, with no lock and no thread: the messages that were sent and not received, first the one that is
-/// received next; how many there may be at most; whether the channel is closed; and the queues of those that wait.
+/// received next; how many there may be at most; whether the channel is closed; and the queues of waiters.
 ///
 /// After each call nobody waits in vain, as [`nobody_waits_in_vain`](Messages::nobody_waits_in_vain) says, and there are no more
 /// messages than there may be. Where there is a limit below `usize::MAX`, each has its place from the beginning.
 ///
-/// One that is notified has no message or place of its own: it looks, and waits again if another one came before. A message
-/// notifies one receiver more and all streams, so whoever was notified before and is left alone keeps it from nobody for good.
-/// A message that is taken does the same for the senders.
+/// A waiter that is notified owns no message or place yet: it tries, and waits again if another caller was faster. A message
+/// notifies one more receiver and all streams, so a waiter that was notified before and does not try keeps the message from
+/// nobody for good. A message that is taken notifies senders in the same way.
 ///
-/// A receiver that was notified and found nothing [`PATIENCE`] times starves. While one in the queue does, newcomers take only
-/// messages that are not due to notified ones: so many more than those as there are. A stream is a newcomer. So it is with
-/// senders and places. What comes by force takes any place.
+/// A receiver that was notified and found nothing [`PATIENCE`] times starves. While a receiver in the queue starves, newcomers
+/// take only messages that are not due to notified receivers: as many as there are more messages than notified receivers. A
+/// stream is a newcomer. The same holds of senders and places. A forced send takes any place.
 ///
-/// What is due has a bound, so that one that is left alone stops nobody. Of those that starve the first is struck off when
-/// [`FORBEARANCE`] newcomers were refused though a message or place was there, or twice as many for each time that it lost
-/// since. It starves no more then. If it was notified it is in the queue no more, and the next is notified in its place: when it
-/// comes, it is a newcomer. The last one is refused, too. No newcomer waits behind what is due to others: it tries again.
+/// The number of newcomers that are refused for a starving waiter has a bound, so that a waiter that does not try again stops
+/// nobody for good. The first of the starving waiters is struck off when [`FORBEARANCE`] newcomers were refused though a
+/// message or place was there, or twice as many for each time that the waiter lost since it began to starve. From then on that
+/// waiter does not starve. If it was notified it also leaves the queue, and the next waiter is notified in its place: when the
+/// waiter that was struck off tries again, it is a newcomer. The last of the counted newcomers is refused, too. No newcomer
+/// waits behind messages or places that are due to others: it tries again.
 #[derive(Drop)]
 pub struct Messages<T, W> {
     items: VecDeque<T>,
@@ -82,7 +84,7 @@ impl<T, W> Model for Messages<T, W> {
     }) (deque_capacity m.items) };
 }
 
-// Puts this message behind all others, and takes the first, if there is one, out: of none it is the first itself.
+// Puts this message behind all others, and takes the first message out. Returns this message itself if there is no other.
 fn replace_first<T>(items: &mut VecDeque<T>, message: T) -> T
     ensures moves { items.old.items ++ (message ∷ []) ≡ result ∷ items.new.items }
     ensures count { length items.new.items ≡ length items.old.items }
@@ -97,7 +99,7 @@ fn replace_first<T>(items: &mut VecDeque<T>, message: T) -> T
     }
 }
 
-// Moves the first `count` messages.
+// Moves the first `count` messages to the end of `into`.
 fn move_first<T>(items: &mut VecDeque<T>, into: &mut Vec<T>, count: usize)
     requires there { count ≤ length items.old.items }
     requires room { vec_len into.old + count ≤ vec_capacity into.old }
@@ -114,8 +116,8 @@ fn move_first<T>(items: &mut VecDeque<T>, into: &mut Vec<T>, count: usize)
 }
 
 impl<T, W: Drop> Messages<T, W> {
-    /// An open channel without messages. Where there is a limit it allocates a place for each message that there may be,
-    /// and else nothing.
+    /// Makes an open channel without messages. Where there is a limit the call allocates a place for each message that there
+    /// may be, and else nothing.
     pub fn new(alloc: Global, capacity: Option<usize>) -> Result<Self, AllocError>
         ensures { IfOk result (λ made. made ≡ new_state (limit_of capacity)) }
     {
@@ -135,8 +137,8 @@ impl<T, W: Drop> Messages<T, W> {
         })
     }
 
-    /// How many messages more there may be from newcomers: as many as there is room for, or while a sender starves, those whose
-    /// places are due to no notified one.
+    /// Returns how many more messages newcomers may send: as many as there is room for, or, while a sender starves, as many as
+    /// there are places that are due to no notified sender.
     pub fn room_for_newcomers(&self) -> usize
         ensures count { result ≡ room_for_newcomers self.now }
         ensures most { result ≤ room_in self.now }
@@ -148,7 +150,7 @@ impl<T, W: Drop> Messages<T, W> {
     }
 
     /// Puts a message behind all others, if the channel is open and there is room for newcomers, and wakes a receiver and all
-    /// streams. It allocates only where there is no limit.
+    /// streams. The call allocates only where there is no limit.
     #[inline(always)]
     pub fn push<S: WakeSink<W>>(&mut self, message: T, sink: &mut S) -> Result<(), SendError<T>>
         ensures pushed { IfOk result (λ _. Pushes message self.old self.new) }
@@ -171,7 +173,7 @@ impl<T, W: Drop> Messages<T, W> {
         self.push_any(message, sink)
     }
 
-    // `push` of one that may have a place in the queue of the senders; of those that are refused nobody is counted.
+    // Sends as `push` does, for a sender that may have a place in the queue of the senders. Counts no refused newcomer.
     #[inline(always)]
     fn push_as<S: WakeSink<W>>(
         &mut self,
@@ -200,7 +202,7 @@ impl<T, W: Drop> Messages<T, W> {
         self.push_any(message, sink)
     }
 
-    // Whether the channel is open, and there is no room for newcomers.
+    // Returns whether the channel is open, and there is no room for newcomers.
     #[cold]
     #[inline(never)]
     fn places_are_due(&self) -> bool
@@ -210,7 +212,8 @@ impl<T, W: Drop> Messages<T, W> {
         !self.is_closed && self.room_for_newcomers() == 0
     }
 
-    // A newcomer found no room: if there is some, it was refused for the sake of the first that starves.
+    // Counts a newcomer that found no room. If there is some room, the newcomer was refused for the sake of the first starving
+    // sender; the last newcomer that is counted for that sender strikes it off.
     #[cold]
     #[inline(never)]
     fn forbear_sending<S: WakeSink<W>>(&mut self, sink: &mut S)
@@ -226,7 +229,8 @@ impl<T, W: Drop> Messages<T, W> {
         }
     }
 
-    // Has a sender starve no more. If it was notified it leaves the queue, and the next is notified in its place.
+    // Strikes a sender off: it starves no more. A sender that was notified also leaves the queue, and the next sender is
+    // notified in its place.
     fn strike_sender<S: WakeSink<W>>(&mut self, key: Key, sink: &mut S)
         ensures off { SenderStruckOff key self.old self.new }
         ensures wakes { FoldsTo S.woke sink.old
@@ -238,8 +242,8 @@ impl<T, W: Drop> Messages<T, W> {
         strike(&mut self.starving_senders, Some(key));
     }
 
-    // Puts a message behind all others, if the channel is open and not full, on a place that is due to others or not, and wakes a
-    // receiver and all streams.
+    // Puts a message behind all others, if the channel is open and not full, and wakes a receiver and all streams. The message
+    // takes any free place, also a place that is due to others.
     fn push_any<S: WakeSink<W>>(&mut self, message: T, sink: &mut S) -> Result<(), SendError<T>>
         ensures pushed { IfOk result (λ _. Pushes message self.old self.new) }
         ensures wakes { IfOk result (λ _.
@@ -268,8 +272,8 @@ impl<T, W: Drop> Messages<T, W> {
         }
     }
 
-    /// [`push`](Messages::push) on any place, due to others or not; where the channel is full the first message of all goes out,
-    /// and is returned: then nobody is woken.
+    /// Sends a message as [`push`](Messages::push) does, but on any place, also a place that is due to others. Where the
+    /// channel is full the call takes out and returns the first message of all: then nobody is woken.
     pub fn push_forced<S: WakeSink<W>>(
         &mut self,
         message: T,
@@ -290,7 +294,8 @@ impl<T, W: Drop> Messages<T, W> {
         Ok(None)
     }
 
-    /// How many messages there are for newcomers: all, or while a receiver starves those that are due to no notified one.
+    /// Returns how many messages newcomers may take: all, or, while a receiver starves, those messages that are due to no
+    /// notified receiver.
     pub fn for_newcomers(&self) -> usize
         ensures count { result ≡ for_newcomers self.now }
         ensures most { result ≤ length self.now.messages }
@@ -321,7 +326,7 @@ impl<T, W: Drop> Messages<T, W> {
         self.pop_any(sink)
     }
 
-    // `pop` of one that may have a place in the queue of the receivers; of those that are refused nobody is counted.
+    // Receives as `pop` does, for a receiver that may have a place in the queue of the receivers. Counts no refused newcomer.
     #[inline(always)]
     pub(crate) fn pop_as<S: WakeSink<W>>(
         &mut self,
@@ -345,7 +350,7 @@ impl<T, W: Drop> Messages<T, W> {
         self.pop_any(sink)
     }
 
-    // Takes the first message, due to others or not, and wakes a sender.
+    // Takes the first message, also a message that is due to others, and wakes a sender.
     #[inline(always)]
     fn pop_any<S: WakeSink<W>>(&mut self, sink: &mut S) -> Result<T, TryRecvError>
         ensures popped { IfOk result (λ message. Takes (message ∷ []) self.old self.new) }
@@ -366,7 +371,7 @@ impl<T, W: Drop> Messages<T, W> {
         }
     }
 
-    // Whether the channel is open, and there is no message for newcomers.
+    // Returns whether the channel is open, and there is no message for newcomers.
     #[cold]
     #[inline(never)]
     fn messages_are_due(&self) -> bool
@@ -376,7 +381,8 @@ impl<T, W: Drop> Messages<T, W> {
         !self.is_closed && self.for_newcomers() == 0
     }
 
-    // A newcomer found no message: if there is one, it was refused for the sake of the first that starves.
+    // Counts a newcomer that found no message. If there is a message, the newcomer was refused for the sake of the first
+    // starving receiver; the last newcomer that is counted for that receiver strikes it off.
     #[cold]
     #[inline(never)]
     fn forbear_receiving<S: WakeSink<W>>(&mut self, sink: &mut S)
@@ -391,7 +397,8 @@ impl<T, W: Drop> Messages<T, W> {
         }
     }
 
-    // Has a receiver starve no more. If it was notified it leaves the queue, and the next is notified in its place.
+    // Strikes a receiver off: it starves no more. A receiver that was notified also leaves the queue, and the next receiver is
+    // notified in its place.
     fn strike_receiver<S: WakeSink<W>>(&mut self, key: Key, sink: &mut S)
         ensures off { ReceiverStruckOff key self.old self.new }
         ensures wakes { FoldsTo S.woke sink.old (woken_by_striking
@@ -408,7 +415,7 @@ impl<T, W: Drop> Messages<T, W> {
     }
 
     /// Takes the first messages, `limit` at most and no more than are there for newcomers and `into` has room for, puts them
-    /// behind what `into` has, and wakes as many senders. Returns how many it took. It does not allocate.
+    /// behind what `into` has, and wakes as many senders. Returns how many messages the call took. Does not allocate.
     pub fn pop_into<S: WakeSink<W>>(
         &mut self,
         into: &mut Vec<T>,
@@ -430,7 +437,8 @@ impl<T, W: Drop> Messages<T, W> {
         count
     }
 
-    /// Closes the channel, and wakes all that wait: senders, receivers, streams. Returns `false` if it is closed already.
+    /// Closes the channel, and wakes all waiters: senders, receivers, streams. Returns `false` if the channel is closed
+    /// already.
     pub fn close<S: WakeSink<W>>(&mut self, sink: &mut S) -> bool
         ensures once { IsTrue result ↔ (self.old.is_closed ≡ false) }
         ensures closed { IsTrue result → Closes self.old self.new }
@@ -450,44 +458,44 @@ impl<T, W: Drop> Messages<T, W> {
         true
     }
 
-    /// How many messages there are.
+    /// Returns how many messages there are.
     pub fn len(&self) -> usize
         ensures { result ≡ length self.now.messages }
     {
         self.items.len()
     }
 
-    /// Whether there is no message.
+    /// Returns whether there is no message.
     pub fn is_empty(&self) -> bool
         ensures { IsTrue result ↔ (length self.now.messages ≡ 0) }
     {
         self.items.len() == 0
     }
 
-    /// Whether there are as many messages as there may be.
+    /// Returns whether there are as many messages as there may be.
     pub fn is_full(&self) -> bool
         ensures { IsTrue result ↔ IsFull self.now }
     {
         self.items.len() >= self.capacity
     }
 
-    /// How many messages there may be at most: without a limit `usize::MAX`.
+    /// Returns how many messages there may be at most: `usize::MAX` without a limit.
     pub fn capacity(&self) -> usize
         ensures { result ≡ self.now.capacity }
     {
         self.capacity
     }
 
-    /// Whether the channel is closed.
+    /// Returns whether the channel is closed.
     pub fn is_closed(&self) -> bool
         ensures { result ≡ self.now.is_closed }
     {
         self.is_closed
     }
 
-    /// Nobody waits in vain: a receiver only while as many are notified as there are messages, a sender only while as many
-    /// are notified as there are places free, a stream only while there is no message for newcomers, and nobody once the channel
-    /// is closed.
+    /// States that nobody waits in vain: a receiver waits only while as many receivers are notified as there are messages, a
+    /// sender only while as many senders are notified as there are free places, a stream only while there is no message for
+    /// newcomers, and nobody waits once the channel is closed.
     pub fn nobody_waits_in_vain(&self)
         ensures waits { NobodyWaitsInVain self.now }
         ensures fits { length self.now.messages ≤ self.now.capacity }
@@ -496,8 +504,9 @@ impl<T, W: Drop> Messages<T, W> {
     }
 }
 
-/// However many calls are made one after another, messages are received in the order in which they were sent: those that
-/// were there at first and then all that were sent are all that were received and then those that are there at last.
+/// States that messages are received in the order in which they were sent, however many calls are made one after another: the
+/// messages that were there at first, and then all messages that were sent, are all messages that were received, and then the
+/// messages that are there at last.
 pub fn received_in_order<T>()
     ensures { IsReceivedInOrder T }
 {}

@@ -40,7 +40,7 @@ use std::{fmt, mem};
 /// ```
 pub struct Receiver<T: Drop, R: Wait + Clock + Clone> {
     link: Link<T, R>,
-    // Where it waits as a stream, and the hand whose calls it makes then.
+    // The place in which the receiver waits as a stream, and the hand that makes the calls of the stream.
     stream: Receiving,
     hand: RestingHand<T>,
 }
@@ -194,7 +194,7 @@ impl<T: Drop, R: Wait + Clock + Clone> Receiver<T, R> {
     }
 
     /// Receives a message, like [`recv_blocking`](Receiver::recv_blocking), as calls of this hand: attempts that found the
-    /// channel empty, and then one that received the message or the end.
+    /// channel empty, and then an attempt that received the message or the end.
     ///
     /// The last of these calls is the last of one history, which begins with all that the hand had seen, and which has of this
     /// hand just its own calls.
@@ -231,12 +231,12 @@ impl<T: Drop, R: Wait + Clock + Clone> Receiver<T, R> {
     }
 
     /// Receives messages once there is one, at most `limit` of them, and puts them behind what `into` has. Returns how many
-    /// they were, which is none only if `limit` is 0.
+    /// messages these were, which is zero only if `limit` is 0.
     ///
     /// The call blocks the thread until there is a message. It takes all its messages in one step, so no other receive gets one
     /// from between them. Where it has to wait it takes memory, for a place in the queue and for what the thread parks on.
-    /// Before that it takes room in `into`: for one message, which is an error if it is refused, and for as many as are in the
-    /// channel at the moment, which is no error. It takes no more messages than `into` has room for, so reserve room for
+    /// Before that it takes room in `into`: for one message, where a refusal is an error, and for as many as are in the channel
+    /// at the moment, where a refusal is no error. It takes no more messages than `into` has room for, so reserve room for
     /// `limit` messages to have as many as there are.
     pub fn recv_many(&self, into: &mut Vec<T>, limit: usize) -> Result<usize, RecvError>
         ensures most { IfOk result (λ count. count ≤ limit) }
@@ -435,7 +435,7 @@ impl<T: Drop, R: Wait + Clock + Clone> Debug for Receiver<T, R> {
 }
 
 /// A handle of a channel that does not keep the channel open for receivers. [`upgrade`](WeakReceiver::upgrade) makes a receiver
-/// of it, while there is another one.
+/// of it, while there is another receiver.
 #[derive(Drop)]
 pub struct WeakReceiver<T: Drop, R: Wait + Clock + Clone> {
     link: Link<T, R>,

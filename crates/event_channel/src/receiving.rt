@@ -14,8 +14,8 @@ use event_queue::{Key, ListenError, TaskExchange, WakeSink};
 use event_wait::{Attempted, Task};
 use std::marker::Model;
 
-/// The place of one that receives a message, or all as a stream, in its queue, and how often it was notified and found
-/// nothing. A contract sees whether it is a stream, and that place.
+/// The request of a receiver for one message, or of a stream for all: its place in its queue, and how often it was notified and
+/// found nothing. A contract sees whether the request is of a stream, and the place.
 #[derive(Drop)]
 pub(crate) struct Receiving {
     is_stream: bool,
@@ -56,7 +56,7 @@ impl Receiving {
     }
 }
 
-// Receives, or waits in its queue.
+// Receives a message, or has the receiver or stream wait in its queue.
 fn receive_or_wait<T, W: Drop, C, X: TaskExchange<W, C>, K: WakeSink<W>>(
     is_stream: bool,
     key: Option<Key>,
@@ -75,7 +75,7 @@ fn receive_or_wait<T, W: Drop, C, X: TaskExchange<W, C>, K: WakeSink<W>>(
     state.pop_or_wait(key, losses, exchange, on, sink)
 }
 
-// Receives, if a message is there for it. A stream is a newcomer here.
+// Receives a message, if one is there for the receiver. A stream is a newcomer here.
 fn receive_at_once<T, W: Drop, K: WakeSink<W>>(
     is_stream: bool,
     key: Option<Key>,
@@ -93,7 +93,7 @@ fn receive_at_once<T, W: Drop, K: WakeSink<W>>(
     }
 }
 
-// Leaves its queue.
+// Takes the receiver or stream out of its queue.
 fn leave<T, W: Drop, K: WakeSink<W>>(
     is_stream: bool,
     key: Option<Key>,
@@ -109,7 +109,7 @@ fn leave<T, W: Drop, K: WakeSink<W>>(
 }
 
 impl<T> Request<Messages<T, Task>> for Receiving {
-    // A message, or the end: there is none, and the channel is closed.
+    // A message, or the end: there is no message, and the channel is closed.
     type Output = Option<T>;
 
     type Refusal = ListenError;
@@ -124,7 +124,7 @@ impl<T> Request<Messages<T, Task>> for Receiving {
 
     ghost leaves = { λ before _ after. AsksOn before after };
 
-    // Its hand waits where it does itself.
+    // The hand of the request waits in the place of the request.
     ghost follows = { λ receiving. WaitsAt (receiver_at receiving.asked receiving.key) };
 
     ghost attempting = { λ receiving. ReceivesOrWaits receiving.asked };
@@ -196,8 +196,8 @@ impl<T> Attempt<Messages<T, Task>> for Receiving {
     }
 }
 
-/// The place of one that receives many messages at once, and where they go. A contract sees where, how many beside the first
-/// it takes at most, and that place.
+/// The request of a receiver for many messages at once: its place in its queue, and the vector into which the messages go. A
+/// contract sees the vector, how many messages beside the first the receiver takes at most, and the place.
 #[derive(Drop)]
 pub(crate) struct ReceivingMany<T> {
     key: Option<Key>,
@@ -219,7 +219,7 @@ impl<T> Model for ReceivingMany<T> {
 }
 
 impl<T> ReceivingMany<T> {
-    /// Of a vector that has room for one message at least.
+    /// Makes a request of a vector that has room for one message at least.
     pub(crate) fn new(into: Vec<T>, more: usize) -> Self
         ensures into { result.asked.into ≡ into.items }
         ensures more { result.asked.more ≡ more }
@@ -247,7 +247,7 @@ impl<T> ReceivingMany<T> {
 }
 
 impl<T> ReceivingMany<T> {
-    // Takes the first message and as many more as it may, if one is there for newcomers. Nobody is refused by it.
+    // Takes the first message, if one is there for newcomers, and as many more as the receiver may. Counts no refused newcomer.
     fn take<K: WakeSink<Task>>(
         &mut self,
         state: &mut Messages<T, Task>,
@@ -274,7 +274,7 @@ impl<T> ReceivingMany<T> {
 }
 
 impl<T> Request<Messages<T, Task>> for ReceivingMany<T> {
-    // How many messages, or the end.
+    // How many messages were received, or the end.
     type Output = Option<usize>;
 
     type Refusal = ListenError;
@@ -291,15 +291,15 @@ impl<T> Request<Messages<T, Task>> for ReceivingMany<T> {
 
     ghost leaves = { λ before answer after. LeavesBy Collects before.asked answer after.asked };
 
-    // Its hand waits where it does itself.
+    // The hand of the request waits in the place of the request.
     ghost follows = { λ many. WaitsAt (receiver_at false many.key) };
 
     ghost attempting = { λ many. ReceivesManyOrWaits many.asked };
 
     ghost leaving = { λ many. NotRefused ReceivesManyOrLeaves many.asked };
 
-    // It leaves the queue once it has all that it takes, so nobody is notified of that. Room was reserved before: without any
-    // it is refused.
+    // The receiver leaves the queue once it has all messages that it takes, so nobody is notified of these messages. Room for a
+    // message was reserved before: a request without any room is refused.
     fn attempt_or_wait<C, X: TaskExchange<Task, C>, K: WakeSink<Task>>(
         &mut self,
         state: &mut Messages<T, Task>,

@@ -37,11 +37,11 @@ pub struct Recv<'a, T: Drop, R: Wait + Clock + Clone> {
     rt: &'a R,
     alloc: Global,
     receiving: Receiving,
-    // All its calls are of one hand.
+    // The hand that makes all calls of the future.
     hand: RestingHand<T>,
 }
 
-// What a wait without a limit received.
+// Returns what a wait without a limit received.
 pub(crate) fn received<T>(
     waited: Result<Option<Option<T>>, Refused<ListenError>>,
 ) -> Result<T, RecvError>
@@ -56,7 +56,7 @@ pub(crate) fn received<T>(
     }
 }
 
-// The same of a wait with a limit.
+// Returns what a wait with a limit received.
 pub(crate) fn received_in_time<T>(
     waited: Result<Option<Option<T>>, Refused<ListenError>>,
 ) -> Result<T, RecvTimeoutError> {

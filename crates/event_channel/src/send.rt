@@ -29,7 +29,7 @@ pub struct Send<'a, T: Drop, R: Wait + Clock + Clone> {
     rt: &'a R,
     alloc: Global,
     sending: Sending<T>,
-    // All its calls are of one hand.
+    // The hand that makes all calls of the future.
     hand: RestingHand<T>,
 }
 

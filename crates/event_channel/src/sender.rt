@@ -113,7 +113,7 @@ pub fn unbounded<T: Drop, R: Wait + Clock + Clone>(
     }
 }
 
-// A channel, and the first handle of each side.
+// Makes a channel, and the first handle of each side.
 fn sides<T: Drop, R: Wait + Clock + Clone>(
     rt: &R,
     alloc: Global,
@@ -313,7 +313,7 @@ impl<T: Drop, R: Wait + Clock + Clone> Sender<T, R> {
     }
 
     /// Sends a message, like [`send_blocking`](Sender::send_blocking), as calls of this hand: attempts that found the channel
-    /// full, and then one that sent the message or was refused.
+    /// full, and then an attempt that sent the message or was refused.
     ///
     /// The last of these calls is the last of one history, which begins with all that the hand had seen, and which has of this
     /// hand just its own calls.
@@ -498,7 +498,7 @@ impl<T: Drop, R: Wait + Clock + Clone> Debug for Sender<T, R> {
 }
 
 /// A handle of a channel that does not keep the channel open for senders. [`upgrade`](WeakSender::upgrade) makes a sender of
-/// it, while there is another one.
+/// it, while there is another sender.
 #[derive(Drop)]
 pub struct WeakSender<T: Drop, R: Wait + Clock + Clone> {
     link: Link<T, R>,

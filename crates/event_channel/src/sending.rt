@@ -11,8 +11,8 @@ use event_queue::{Key, ListenError, TaskExchange, WakeSink};
 use event_wait::{Attempted, Task};
 use std::marker::Model;
 
-/// A message that is to be sent, the place of its sender in the queue, and how often it was notified and found no room. A
-/// contract sees the message until it is sent or returned, and that place.
+/// The request of a sender: the message that is to be sent, the place of the sender in the queue, and how often the sender was
+/// notified and found no room. A contract sees the message until it is sent or returned, and the place.
 #[derive(Drop)]
 pub(crate) struct Sending<T> {
     message: Option<T>,
@@ -41,7 +41,7 @@ impl<T> Sending<T> {
         }
     }
 
-    /// The message was not sent, for this reason.
+    /// Returns the error with the message, which was not sent for this reason.
     pub(crate) fn refuse(&mut self, reason: SendReason) -> SendError<T>
         requires { IsSome self.old.asked }
         ensures message { self.old.asked ≡ Some result.message }
@@ -55,7 +55,7 @@ impl<T> Sending<T> {
     }
 }
 
-// Sends the message in a slot, if there is one and room for it, by its place in the queue.
+// Sends the message in a slot, if there is a message and room for it. The sender may have a place in the queue, with this key.
 #[inline(always)]
 fn send_at_once<T, W: Drop, K: WakeSink<W>>(
     slot: &mut Option<T>,
@@ -99,7 +99,7 @@ impl<T: Drop> Request<Messages<T, Task>> for Sending<T> {
 
     ghost leaves = { λ before answer after. LeavesBy Empties before.asked answer after.asked };
 
-    // Its hand waits where it does itself.
+    // The hand of the request waits in the place of the request.
     ghost follows = { λ sending. WaitsAt (sender_at sending.key) };
 
     ghost attempting = { λ sending. SendsOrWaits sending.asked };

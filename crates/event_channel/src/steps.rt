@@ -9,7 +9,7 @@ use crate::messages::Messages;
 use event_history::Step;
 use event_queue::WakeSink;
 
-/// A message is sent.
+/// The step that sends a message.
 pub(crate) struct Push<T> {
     pub(crate) message: T,
 }
@@ -29,7 +29,7 @@ impl<T: Drop, W: Drop, K: WakeSink<W>> Step<Messages<T, W>, K> for Push<T> {
     }
 }
 
-/// A message is sent, in the place of the first if the channel is full.
+/// The step that sends a message, in the place of the first message if the channel is full.
 pub(crate) struct PushForced<T> {
     pub(crate) message: T,
 }
@@ -48,7 +48,7 @@ impl<T, W: Drop, K: WakeSink<W>> Step<Messages<T, W>, K> for PushForced<T> {
     }
 }
 
-/// A message is received.
+/// The step that receives a message.
 #[derive(Drop)]
 pub(crate) struct Pop;
 
@@ -65,7 +65,7 @@ impl<T, W: Drop, K: WakeSink<W>> Step<Messages<T, W>, K> for Pop {
     }
 }
 
-/// The channel is closed.
+/// The step that closes the channel.
 #[derive(Drop)]
 pub(crate) struct Close;
 
@@ -81,7 +81,7 @@ impl<T, W: Drop, K: WakeSink<W>> Step<Messages<T, W>, K> for Close {
     }
 }
 
-/// Whether the channel is closed.
+/// The step that answers whether the channel is closed.
 #[derive(Drop)]
 pub(crate) struct IsClosed;
 
@@ -97,7 +97,7 @@ impl<T, W: Drop> Step<Messages<T, W>, ()> for IsClosed {
     }
 }
 
-/// Whether the channel is full.
+/// The step that answers whether the channel is full.
 #[derive(Drop)]
 pub(crate) struct IsFull;
 
@@ -113,7 +113,7 @@ impl<T, W: Drop> Step<Messages<T, W>, ()> for IsFull {
     }
 }
 
-/// How many messages wait.
+/// The step that answers how many messages wait.
 #[derive(Drop)]
 pub(crate) struct Len;
 

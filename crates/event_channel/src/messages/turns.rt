@@ -1,4 +1,4 @@
-//! Those in a queue that starve, for which newcomers leave what is due to them.
+//! Waiters in a queue that starve: newcomers leave them the messages or places that are due to them.
 ghost use Rattle.std.specs.Prelude.{◌≡◌, ◌≢◌, ◌==◌, ◌||◌, true, false, length, None, Some, IfErr, IfOk, OnErr};
 ghost use Rattle.event_wait.specs.Line.{WaitsBy};
 ghost use Rattle.event_channel.specs.Turns.{CannotWaitInTurn, Counts, Starving, WaitsAtPlace, but, forborne_with, is_told, left_for_newcomers, less_forborne, struck, struck_off};
@@ -9,24 +9,24 @@ use event_wait::Attempted;
 use event_wait::waiters::{join_line, leave, wait_in_line};
 use std::alloc::Global;
 
-/// How often one is notified and finds nothing before newcomers leave it what is due to it.
+/// How often a waiter is notified and finds nothing before newcomers leave it the message or place that is due to it.
 pub const PATIENCE: u32 = 2;
 
-/// How many newcomers are refused for the sake of one that starves before it is struck off, if it lost [`PATIENCE`] times: after
-/// each loss more twice as many, and about a million at most.
+/// How many newcomers are refused for the sake of a starving waiter before that waiter is struck off, if it lost [`PATIENCE`]
+/// times. Each further loss doubles the number, up to about a million.
 pub const FORBEARANCE: u32 = 64;
 
-// How often it is doubled at most.
+// How often `FORBEARANCE` is doubled at most.
 const DOUBLED: u32 = 14;
 
-// For how many newcomers beside the last one is forborne with that has lost so often.
+// Returns how many newcomers, beside the last, are refused for the sake of a waiter that has lost so often.
 fn forborne_with(losses: u32) -> u32
     ensures { result ≡ forborne_with losses }
 {
     (FORBEARANCE << losses.saturating_sub(PATIENCE).min(DOUBLED)) - 1
 }
 
-// Whether this one is in the queue, and notified.
+// Returns whether the waiter with this key is in the queue, and notified.
 #[inline(always)]
 pub(crate) fn is_told<W>(line: &List<(), W>, key: Option<Key>) -> bool
     ensures { result ≡ is_told key line.now }
@@ -37,8 +37,8 @@ pub(crate) fn is_told<W>(line: &List<(), W>, key: Option<Key>) -> bool
     }
 }
 
-// How much of this is there for newcomers: all, if the channel is closed or nobody starves, or what is due to none of those in the
-// queue that are notified.
+// Returns how many of the messages or places that are there newcomers may take: all, if the channel is closed or no waiter
+// starves, and else those that are due to no notified waiter in the queue.
 pub(crate) fn left_for_newcomers<W>(
     is_closed: bool,
     starving: &Vec<(Key, u32), Global>,
@@ -54,7 +54,7 @@ pub(crate) fn left_for_newcomers<W>(
     there.saturating_sub(line.listeners_notified())
 }
 
-// Takes this one, if it is one, out of those that starve.
+// Takes the waiter with this key, if there is a key, out of the list of starving waiters.
 #[inline(always)]
 pub(crate) fn strike(starving: &mut Vec<(Key, u32), Global>, key: Option<Key>)
     ensures { starving.new.items ≡ but key starving.old.items }
@@ -74,7 +74,8 @@ fn strike_off(starving: &mut Vec<(Key, u32), Global>, key: Key)
     starving.retain(|one| key != one.0);
 }
 
-// Counts one newcomer more that is refused for the sake of the first that starves. Returns its key if that is the last one.
+// Counts one more newcomer that is refused for the sake of the first starving waiter. Returns the key of that waiter if the
+// newcomer is the last to be refused for it.
 pub(crate) fn forbear(starving: &mut Vec<(Key, u32), Global>) -> Option<Key>
     ensures off { result ≡ struck_off starving.old.items }
     ensures less { result ≡ None → starving.new.items ≡ less_forborne starving.old.items }
@@ -89,7 +90,8 @@ pub(crate) fn forbear(starving: &mut Vec<(Key, u32), Global>) -> Option<Key>
     None
 }
 
-// Has one that was not notified wait on at its place. One that has none comes again: all that is there is due to others.
+// Has a waiter that was not notified wait on at its place. A caller without a place is absent, and tries again: all messages or
+// places that are there are due to others.
 #[cold]
 #[inline(never)]
 pub(crate) fn wait_at_place<W, G, C, X: TaskExchange<W, C>>(
@@ -110,9 +112,9 @@ pub(crate) fn wait_at_place<W, G, C, X: TaskExchange<W, C>>(
     }
 }
 
-// Has one wait that found nothing: at its place, or at the end of the queue if it was notified or is new. One that was
-// notified has lost once more, and starves if it lost `PATIENCE` times. One that is new or starves may allocate. An error
-// says that it is in the queue no more.
+// Has a waiter wait that found nothing: at its place, or at the end of the queue if it was notified or is new. A notified
+// waiter has lost once more, and starves if it lost `PATIENCE` times. The call may allocate for a waiter that is new or
+// starves. An error says that the waiter is in the queue no more.
 #[inline(always)]
 pub(crate) fn wait_in_turn<W: Drop, C, X: TaskExchange<W, C>>(
     line: &mut List<(), W>,
@@ -144,7 +146,7 @@ pub(crate) fn wait_in_turn<W: Drop, C, X: TaskExchange<W, C>>(
     }
 }
 
-// Has one wait that was notified and found nothing.
+// Has a waiter wait again that was notified and found nothing.
 #[inline(never)]
 fn wait_after_loss<W: Drop, C, X: TaskExchange<W, C>>(
     line: &mut List<(), W>,

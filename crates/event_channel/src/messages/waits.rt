@@ -1,4 +1,4 @@
-//! One that sends or receives, and waits where it can't.
+//! Senders and receivers that wait where there is no room or no message for them.
 ghost use Rattle.std.specs.Prelude.{◌≡◌, None, Some, length, IfErr};
 ghost use Rattle.std.specs.List.{FoldsTo};
 ghost use Rattle.event_wait.specs.Line.{LeavesThenTells, woken_by_leaving};
@@ -16,7 +16,7 @@ use event_queue::{Key, ListenError, TaskExchange, WakeSink};
 use event_wait::Attempted;
 use event_wait::waiters::{leave, leave_then_tell, tell_all, wait_in_line};
 
-// Puts back what was taken out.
+// Puts a value back into the slot from which it was taken.
 pub(crate) fn put_back<T>(slot: &mut Option<T>, value: T)
     requires { slot.old ≡ None }
     ensures { slot.new ≡ Some value }
@@ -28,12 +28,13 @@ pub(crate) fn put_back<T>(slot: &mut Option<T>, value: T)
 }
 
 impl<T, W: Drop> Messages<T, W> {
-    /// [`push`](Messages::push) of the message in a slot; one that was notified takes a place that is due to it, too. Where there
-    /// is no room for it its sender waits, with the task that the exchange makes. A message that is not sent stays in its slot;
-    /// one whose slot is empty is absent, and so is one in no queue where there is room, but each place is due to others: it tries
-    /// again. It tries each time, notified or not; one that was notified in vain goes to the end of
-    /// the queue, and has lost once more: it starves if that is [`PATIENCE`](super::PATIENCE) times. One that does not wait is in
-    /// the queue no more, and another is notified in its place if one is due. One that is new or starves may allocate.
+    /// Sends the message in a slot as [`push`](Messages::push) does; a notified sender also takes a place that is due to it.
+    /// Where there is no room for the message its sender waits, with the task that the exchange makes. A message that is not
+    /// sent stays in its slot. A sender whose slot is empty is absent. A sender in no queue is absent, too, where there is
+    /// room, but each place is due to others: that sender tries again. A sender tries at each call, notified or not. A sender
+    /// that was notified in vain goes to the end of the queue, and has lost once more: it starves if it lost
+    /// [`PATIENCE`](super::PATIENCE) times. A sender that does not wait is in the queue no more, and another sender is notified
+    /// in its place if a place is due. The call may allocate for a sender that is new or starves.
     pub fn push_or_wait<C, X: TaskExchange<W, C>, S: WakeSink<W>>(
         &mut self,
         message: &mut Option<T>,
@@ -90,9 +91,11 @@ impl<T, W: Drop> Messages<T, W> {
         }
     }
 
-    /// [`pop`](Messages::pop); one that was notified takes what is due to it, too. One for whom there is no message waits, as
-    /// a sender does: if it was notified it has lost once more, and starves if that is [`PATIENCE`](super::PATIENCE) times. One in
-    /// no queue is absent where there are messages, but each is due to others: it tries again. `None` is the end: there is no message, and the channel is closed, so none will come.
+    /// Receives a message as [`pop`](Messages::pop) does; a notified receiver also takes a message that is due to it. A
+    /// receiver for which there is no message waits, as a sender does: a notified receiver has lost once more, and starves if
+    /// it lost [`PATIENCE`](super::PATIENCE) times. A receiver in no queue is absent where there are messages, but each is due
+    /// to others: that receiver tries again. `None` is the end: there is no message, and the channel is closed, so no message
+    /// will be sent.
     pub fn pop_or_wait<C, X: TaskExchange<W, C>, S: WakeSink<W>>(
         &mut self,
         key: Option<Key>,
@@ -134,8 +137,9 @@ impl<T, W: Drop> Messages<T, W> {
         }
     }
 
-    /// [`pop_or_wait`](Messages::pop_or_wait) for a stream, which waits in the queue of the streams. It takes what is there for
-    /// newcomers, and never waits where there are messages that are due to others: it leaves its queue then, and tries again.
+    /// Receives as [`pop_or_wait`](Messages::pop_or_wait) does, for a stream, which waits in the queue of the streams. A stream
+    /// takes a message that is there for newcomers, and never waits where there are messages that are due to others: it leaves
+    /// its queue then, and tries again.
     pub fn next_or_wait<C, X: TaskExchange<W, C>, S: WakeSink<W>>(
         &mut self,
         key: Option<Key>,
@@ -172,8 +176,8 @@ impl<T, W: Drop> Messages<T, W> {
         }
     }
 
-    /// [`push`](Messages::push) of one that may have a place in the queue of the senders: if it was notified it takes a place that
-    /// is due to it, too.
+    /// Sends as [`push`](Messages::push) does, for a sender that may have a place in the queue of the senders: a notified
+    /// sender also takes a place that is due to it.
     pub fn push_by<S: WakeSink<W>>(
         &mut self,
         key: Option<Key>,
@@ -190,8 +194,8 @@ impl<T, W: Drop> Messages<T, W> {
         }
     }
 
-    /// Takes this sender, if it is one, out of its queue: it starves no more. If now fewer are notified than there are places
-    /// free, others are, and are woken.
+    /// Takes the sender with this key, if there is a key, out of its queue: the sender starves no more. If fewer senders are
+    /// notified now than there are free places, notifies and wakes other senders.
     #[inline(always)]
     pub fn cancel_sender<S: WakeSink<W>>(&mut self, key: Option<Key>, sink: &mut S)
         ensures left { SenderLeaves key self.old self.new }
@@ -204,8 +208,8 @@ impl<T, W: Drop> Messages<T, W> {
         leave_then_tell(&mut self.senders, key, room, sink);
     }
 
-    /// [`pop`](Messages::pop) of one that may have a place in the queue of the receivers: if it was notified it takes what is
-    /// due to it, too.
+    /// Receives as [`pop`](Messages::pop) does, for a receiver that may have a place in the queue of the receivers: a notified
+    /// receiver also takes a message that is due to it.
     pub fn pop_by<S: WakeSink<W>>(
         &mut self,
         key: Option<Key>,
@@ -219,8 +223,9 @@ impl<T, W: Drop> Messages<T, W> {
         }
     }
 
-    /// Takes this receiver, if it is one, out of its queue: it starves no more. If now fewer are notified than there are
-    /// messages, others are, and are woken. If now a message is there for newcomers, all streams are.
+    /// Takes the receiver with this key, if there is a key, out of its queue: the receiver starves no more. If fewer receivers
+    /// are notified now than there are messages, notifies and wakes other receivers. If a message is there for newcomers now,
+    /// notifies and wakes all streams.
     #[inline(always)]
     pub fn cancel_receiver<S: WakeSink<W>>(&mut self, key: Option<Key>, sink: &mut S)
         ensures left { ReceiverLeaves key self.old self.new }
@@ -234,7 +239,7 @@ impl<T, W: Drop> Messages<T, W> {
         leave_then_tell(&mut self.receivers, key, self.items.len(), sink);
     }
 
-    // The same where a receiver starves.
+    // Takes a receiver out of its queue as `cancel_receiver` does, where a receiver starves.
     #[cold]
     #[inline(never)]
     fn cancel_in_turn<S: WakeSink<W>>(&mut self, key: Option<Key>, sink: &mut S)
@@ -255,8 +260,8 @@ impl<T, W: Drop> Messages<T, W> {
         }
     }
 
-    /// Takes this stream, if it is one, out of its queue. Nobody need be notified in its place: where there is a message for
-    /// newcomers, no stream waits.
+    /// Takes the stream with this key, if there is a key, out of its queue. Nobody need be notified in its place: where there
+    /// is a message for newcomers, no stream waits.
     #[inline(always)]
     pub fn cancel_stream<S: WakeSink<W>>(&mut self, key: Option<Key>, sink: &mut S)
         ensures left { LeavesThenTells key (length self.new.messages) self.old.streams
