@@ -1,7 +1,8 @@
-//! How a thread waits that asks once before it parks.
+//! How a thread waits that tries once before it parks.
 //!
-//! What it asks is a few instructions under a lock, and where it gets nothing it mostly waits long: for others to come, for a value to
-//! be made, for a change. So it goes into the queue by the step that asks, and makes what it parks on only then.
+//! An attempt is a few instructions under a lock, and a thread that gets nothing mostly waits long: for others to arrive, for a
+//! value to be made, for a change. So the thread joins the queue by the step that attempts, and makes what it parks on only
+//! then.
 ghost use Rattle.std.specs.Prelude.{◌≡◌, ◌≢◌, IfErr, IfOk, IsSome};
 ghost use Rattle.event_wait.specs.Rounds.{Fails, Obtains, TriesOrWaits, Waits};
 ghost use Rattle.event_wait.specs.declared.lock.limit.Limit.TheVariants.{Never};
@@ -13,10 +14,11 @@ use std::sync::{Arc, Wait};
 use std::thread::Parker;
 use std::time::Clock;
 
-/// Blocks the thread until it has what it requests or the limit has passed, which is `None`. It asks by the step that puts it into
-/// the queue, parks, and asks again once it is woken. Where the limit has passed it asks once, enters no queue and allocates nothing.
+/// Blocks the thread until it has what it requests. Returns `None` if the limit has passed before. The thread attempts by the
+/// step that has it join the queue, parks, and attempts again once it is woken. Where the limit has passed already, the thread
+/// attempts once, joins no queue and allocates nothing.
 ///
-/// With an answer, a refusal or `None` it is in no queue. It may wait for the lock.
+/// After an answer, a refusal or `None` the thread is in no queue. The call may wait for the lock.
 pub(crate) fn obtain<L: Obtainable<Q>, Q, R: Wait + Clock>(
     lock: &L,
     rt: &R,
@@ -40,7 +42,7 @@ pub(crate) fn obtain<L: Obtainable<Q>, Q, R: Wait + Clock>(
     }
 }
 
-// The same, but for a place in the queue where it fails.
+// Blocks the thread as `obtain` does, but leaves the request its place in the queue, if it has one, after an error.
 #[inline(always)]
 fn ask_or_wait<L: Obtainable<Q>, Q, R: Wait + Clock>(
     lock: &L,
@@ -61,7 +63,7 @@ fn ask_or_wait<L: Obtainable<Q>, Q, R: Wait + Clock>(
     wait(lock, rt, alloc, request, limit)
 }
 
-// In the queue, where it asks as it comes, and whenever it is woken.
+// Waits in the queue: attempts as the thread joins the queue, and whenever the thread is woken.
 #[inline(always)]
 fn wait<L: Waitable<Q>, Q, R: Wait + Clock>(
     lock: &L,
@@ -114,7 +116,7 @@ fn leave_late<L: Waitable<Q>, Q, R: Wait>(
     }
 }
 
-// What a thread parks on, once it has to, and where memory was not refused.
+// What a thread parks on, once it has to park and its memory was not refused.
 #[derive(Drop)]
 struct Parking {
     parker: Option<Arc<Parker, Global>>,
@@ -122,7 +124,7 @@ struct Parking {
 }
 
 impl Parking {
-    // The task of the thread, if there was memory for it.
+    // Returns the task of the thread, if there was memory for it.
     fn task(&mut self) -> Option<Task> {
         let parker = match self.parker.take() {
             Some(parker) => parker,
@@ -134,11 +136,11 @@ impl Parking {
     }
 }
 
-// Has the thread be woken. One that parked before, and keeps its place, has stored its task already.
+// Stores the task by which the thread is woken. A thread that parked before, and keeps its place, has stored its task already.
 struct MakeParker {}
 
 impl TaskExchange<Task, Parking> for MakeParker {
-    // No contract can name what sleeps. Tests show that it is woken.
+    // No contract can name the thread that sleeps. Tests show that it is woken.
     ghost exchanged = { λ _ _ _ _ _. Unit {0} };
 
     fn exchange(&self, on: &mut Parking, stored: Option<Task>) -> Task

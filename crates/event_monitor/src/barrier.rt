@@ -28,22 +28,22 @@ pub struct Barrier {
 ///
 /// A thread blocks by [`wait`](BarrierWait::wait), [`wait_timeout`](BarrierWait::wait_timeout) or
 /// [`wait_deadline`](BarrierWait::wait_deadline). A task awaits it, since it is a future; a poll after its output answers
-/// [`PollError::Finished`]. A wait that is dropped before its round has ended counts as one that has not arrived.
+/// [`PollError::Finished`]. A wait that is dropped before its round has ended counts as a caller that has not arrived.
 #[must_use = "it arrives only once it is waited on or polled"]
 #[derive(Drop)]
 pub struct BarrierWait<'a, R: Wait + Clock> {
     queueing: Queueing<Lock<Rounds<Task>>, Ticket<Ended>, Arriving<'a, R>>,
 }
 
-/// The end of a round at a barrier, as one of those that arrived sees it.
+/// The end of a round at a barrier, as a caller sees it that arrived in the round.
 #[derive(Clone, Copy, Debug, PartialEq, Eq)]
 pub struct BarrierWaitResult {
     is_leader: bool,
 }
 
 impl Barrier {
-    /// Makes a barrier for so many threads and tasks. A barrier for none is one for one. It takes no memory until somebody
-    /// waits.
+    /// Makes a barrier for so many threads and tasks. A barrier for zero is a barrier for one. The barrier takes no memory
+    /// until somebody waits.
     pub fn new(alloc: Global, parties: usize) -> Self {
         Barrier {
             rounds: Lock::of(Rounds::new(alloc, parties)),
@@ -68,7 +68,7 @@ impl BarrierWaitResult {
         }
     }
 
-    /// Returns whether the caller was the last to arrive. In each round just one is.
+    /// Returns whether the caller was the last to arrive. In each round just one caller is the last.
     pub fn is_leader(&self) -> bool
         ensures { result ≡ self.now.is_leader }
     {
@@ -153,7 +153,7 @@ impl<'a, R: Wait + Clock> Hold<Lock<Rounds<Task>>> for Arriving<'a, R> {
 }
 
 impl Handoff<Ended> for Rounds<Task> {
-    // It is in the queue no more, and so has not arrived in a round that goes on.
+    // The waiter that withdraws is in the queue no more, and so has not arrived in a round that goes on.
     ghost withdraws = { λ old key new. order_of new.line ≡ without key (order_of old.line) };
 
     fn try_grant<K: WakeSink<Task>>(&mut self, sink: &mut K) -> Option<Ended> {

@@ -69,7 +69,7 @@ impl From<WaitError> for BlockError {
     }
 }
 
-// What waits here is waited for beside the locks, whose errors have these reasons too.
+// A wait of this crate may stand beside a wait for a lock, whose errors have these reasons, too.
 impl From<WaitError> for LockError {
     ghost from_gives = { λ from error. error ≡ of_wait from };
 

@@ -1,8 +1,8 @@
 //! A barrier, a cell that is set once, and a monitor: each a state under a lock of `event_wait`, whose type says that nobody waits
 //! in vain.
 //!
-//! Nobody needs this crate to use a lock: [`event_locks`](../../event_locks/README.md) has them all. Read `ticket.rt` first, the
-//! place of one that waits for what a state hands out, then `barrier.rt` and `once_cell.rt`; `monitor.rt` stands alone.
+//! Nobody needs this crate to use a lock: [`event_locks`](../../event_locks/README.md) has them all. Read `ticket.rt` first,
+//! the place of a waiter to which a state hands something, then `barrier.rt` and `once_cell.rt`; `monitor.rt` stands alone.
 #![tactic(auto)]
 
 mod asking;

@@ -1,4 +1,4 @@
-//! A value whose changes wake those that wait for something of it.
+//! A value whose changes wake the waiters for a condition on it.
 ghost use Rattle.std.specs.Prelude.{◌≡◌, None, IfOk, IfSome, IsSome};
 ghost use Rattle.event_wait.specs.declared.lock.limit.Limit.TheVariants.{Never};
 ghost use Rattle.event_monitor.specs.Watched.{Changes, Fails, Gives, LastAttempt, Succeeds};
@@ -30,7 +30,7 @@ pub struct Monitor<V, C: Condition<V>> {
 }
 
 impl<V: Drop, C: Condition<V> + Copy> Monitor<V, C> {
-    /// Makes a monitor of `value`, with nobody who waits. It takes no memory until somebody does.
+    /// Makes a monitor of `value`, without waiters. The monitor takes no memory until somebody waits.
     pub fn new(alloc: Global, value: V) -> Self {
         Monitor {
             watched: Lock::of(Watched::new(alloc, value)),
@@ -87,8 +87,8 @@ impl<V: Drop, C: Condition<V> + Copy> Monitor<V, C> {
 ///
 /// A thread blocks by [`wait`](Until::wait), [`wait_timeout`](Until::wait_timeout) or [`wait_deadline`](Until::wait_deadline).
 /// A task awaits it, since it is a future. Its result is what an attempt gave. After a result or an error the `Until` may be
-/// used again, and then waits anew. One that was polled and is then waited on keeps its place in the queue. One that is dropped
-/// while it waits leaves the queue.
+/// used again, and then waits anew. An `Until` that was polled and is then waited on keeps its place in the queue. An `Until`
+/// that is dropped while it waits leaves the queue.
 #[must_use = "nothing is attempted until it is waited on or polled"]
 pub struct Until<'a, V, C: Condition<V> + Copy, R: Wait> {
     lock: &'a Lock<Watched<V, C, Task>>,
@@ -151,7 +151,8 @@ impl<V, C: Condition<V> + Copy, R: Wait + Clock> Until<'_, V, C, R> {
     }
 }
 
-// What the lock answers, in the words of a monitor.
+// Blocks the thread until an attempt gives something or the limit has passed, and returns the lock's answer in the monitor's
+// types.
 #[inline(always)]
 fn obtain<V, C: Condition<V> + Copy, R: Wait + Clock>(
     lock: &Lock<Watched<V, C, Task>>,
@@ -249,7 +250,7 @@ impl<V, C: Condition<V> + Copy> Request<Watched<V, C, Task>> for Watch<C> {
 }
 
 impl<V, C: Condition<V> + Copy> Attempt<Watched<V, C, Task>> for Watch<C> {
-    // Who waits for a change mostly waits long: a few pauses would not see one.
+    // A thread that waits for a change mostly waits long: in a few pauses it would not see a change.
     const TRIES: u32 = 0;
 
     fn is_waiting(&self) -> bool {

@@ -23,7 +23,7 @@ use std::sync::{OnceLock, OnceToken, Wait};
 use std::time::{Clock, Duration, Instant};
 
 /// A value that is set once. One caller at a time makes the value while the others wait; if that caller fails or gives up, the
-/// next one has the turn.
+/// next caller has the turn.
 ///
 /// A contract sees the number of the source at which waiting tasks are registered, and a name of what is set.
 ///
@@ -408,7 +408,8 @@ impl<T> OnceCell<T> {
         }
     }
 
-    // What shows what the cell has, once it has one, and this value if that is another one. The turn ends.
+    // Sets this value, if the cell has none yet, and ends the turn. Returns a token of the value that the cell has, and gives
+    // this value back if the cell has another.
     fn insert<R: Wait>(&self, rt: &R, value: T) -> (OnceToken<'_, T>, Option<T>)
         ensures of { result.0.of ≡ self.now.id }
         ensures kept { result.1 ≡ None → result.0.value ≡ value }

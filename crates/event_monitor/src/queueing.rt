@@ -39,7 +39,7 @@ impl<L: TakesAny<Q>, Q, H: Hold<L>> Queueing<L, Q, H> {
 }
 
 impl<L: TakesAny<Q, Refusal = ListenError>, Q: Drop, H: Hold<L> + Drop> Queueing<L, Q, H> {
-    // The limit of a wait that begins now and has this timeout.
+    // Returns the limit of a wait that begins now and has this timeout.
     pub(crate) fn limit_after(&self, timeout: Duration) -> Limit {
         match &self.hold {
             Some(hold) => Limit::after(hold.rt(), timeout),
@@ -47,7 +47,7 @@ impl<L: TakesAny<Q, Refusal = ListenError>, Q: Drop, H: Hold<L> + Drop> Queueing
         }
     }
 
-    // Blocks the thread until it is granted, or until the limit. With no time left it only attempts.
+    // Blocks the thread until the state hands it what it wants, or until the limit. With no time left the call only attempts.
     pub(crate) fn wait_until(self, limit: Limit) -> Result<Option<(H, L::Output)>, BlockError>
         ensures never { limit ≡ Never → IfOk result IsSome }
     {
@@ -68,7 +68,7 @@ impl<L: TakesAny<Q, Refusal = ListenError>, Q: Drop, H: Hold<L> + Drop> Queueing
         }
     }
 
-    // Attempts, and registers the task that polls if it waits on. After an output or an error it has finished.
+    // Attempts, and registers the task that polls where the wait goes on. After an output or an error the wait has finished.
     pub(crate) fn poll(&mut self, cx: &mut Context<'_>) -> Poll<Result<(H, L::Output), PollError>>
         ensures finished { self.old.hold ≡ None → result ≡ Ready (Err Finished) }
         ensures ends { IfReady result (λ _. self.new.hold ≡ None) }
@@ -89,7 +89,8 @@ impl<L: TakesAny<Q, Refusal = ListenError>, Q: Drop, H: Hold<L> + Drop> Queueing
         }
     }
 
-    // The hold, if it waits in no queue and has given nothing yet: what it wants may be at hand without the lock.
+    // Returns the hold, if the wait has no place in a queue and has given nothing yet: what the wait wants may be at hand
+    // without the lock.
     #[inline(always)]
     pub(crate) fn idle(&self) -> Option<&H> {
         match &self.hold {
@@ -98,7 +99,7 @@ impl<L: TakesAny<Q, Refusal = ListenError>, Q: Drop, H: Hold<L> + Drop> Queueing
         }
     }
 
-    // It has given what was at hand.
+    // Ends the wait, which has given what was at hand.
     pub(crate) fn finish(&mut self)
         ensures { self.new.hold ≡ None }
     {

@@ -1,4 +1,4 @@
-//! The place in a queue of one that wants something of a state.
+//! The place in a queue of a waiter that wants something of a state.
 ghost use Rattle.std.specs.Prelude.{◌≡◌, ⊤, IsSome};
 ghost use Rattle.event_queue.specs.declared.key.Key.{Key};
 ghost use Rattle.event_monitor.specs.Queued.{found_by, waits_by};
@@ -8,16 +8,16 @@ use event_queue::{Key, ListenError, RegisterResult, TaskExchange, WakeSink};
 use event_wait::{Attempt, Attempted, Request, Task};
 use std::marker::{Model, PhantomData};
 
-/// A state that hands something to those that come, or that wait for it in its queue.
+/// A state that hands a `G` to newcomers, or to waiters in its queue.
 pub trait Handoff<G> {
-    // What one that withdraws does to the state.
+    // What a waiter that withdraws does to the state.
     ghost withdraws: { Self → Key → Self → Type 0 } = { λ _ _ _. ⊤ };
 
-    /// Hands it to one that comes, if nobody is due before.
+    /// Hands a `G` to a newcomer, if nobody is due before.
     fn try_grant<K: WakeSink<Task>>(&mut self, sink: &mut K) -> Option<G>;
 
-    /// Hands it to one that comes, or that waits by this key, and then is in the queue no more; else has it wait, with the
-    /// task that the exchange makes.
+    /// Hands a `G` to a newcomer, or to the waiter with this key, which then is in the queue no more. Else has the caller wait,
+    /// with the task that the exchange makes.
     fn grant_or_queue<C, X: TaskExchange<Task, C>, K: WakeSink<Task>>(
         &mut self,
         key: Option<Key>,
@@ -28,15 +28,15 @@ pub trait Handoff<G> {
         ensures exchanged { Attempts (X.exchanged exchange.now) on.old result on.new }
         ensures absent { result ≡ Attempted.Absent → IsSome key };
 
-    /// Takes this one out of the queue, with what it can have.
+    /// Takes this waiter out of the queue, and returns what it can have.
     fn leave<K: WakeSink<Task>>(&mut self, key: Key, sink: &mut K) -> Option<G>;
 
-    /// Takes this one out of the queue, and hands on what it can have.
+    /// Takes this waiter out of the queue, and hands on what it can have.
     fn cancel<K: WakeSink<Task>>(&mut self, key: Key, sink: &mut K)
         ensures { withdraws self.old key self.new };
 }
 
-/// The place of one that wants a `G` of a state, in its queue, if it has one.
+/// The request of a caller that wants a `G` of a state: its place in the queue of the state, if it has one.
 pub struct Ticket<G> {
     key: Option<Key>,
     wanted: PhantomData<G>,
@@ -98,7 +98,7 @@ impl<G, S: Handoff<G>> Request<S> for Ticket<G> {
 }
 
 impl<G, S: Handoff<G>> Attempt<S> for Ticket<G> {
-    // Who waits here mostly waits long: a few pauses would see nothing.
+    // A caller that waits here mostly waits long: in a few pauses it would see nothing.
     const TRIES: u32 = 0;
 
     fn is_waiting(&self) -> bool {
@@ -117,7 +117,7 @@ impl<G, S: Handoff<G>> Attempt<S> for Ticket<G> {
     }
 }
 
-/// Whether it waits, by which key, or why not.
+/// Returns by which key the caller waits, or why it could not wait.
 pub(crate) fn waiting<G>(waits: Result<Key, ListenError>) -> Attempted<G, ListenError>
     ensures { result ≡ waits_by waits }
 {
@@ -127,7 +127,7 @@ pub(crate) fn waiting<G>(waits: Result<Key, ListenError>) -> Attempted<G, Listen
     }
 }
 
-/// Whether this one was notified, waits still, or was never there.
+/// Returns whether this waiter was notified, waits still, or was never in the queue.
 pub(crate) fn found<G>(key: Key, looked: RegisterResult<G>) -> Attempted<G, ListenError>
     ensures { result ≡ found_by key looked }
 {

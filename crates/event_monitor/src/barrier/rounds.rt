@@ -15,7 +15,8 @@ use event_wait::{Attempted, Task};
 use std::alloc::Global;
 use std::marker::Model;
 
-/// A round has ended. A contract sees whether this one was the last to arrive. Only a step of the state below makes one.
+/// The end of a round, for one caller. A contract sees whether the caller was the last to arrive. Only a step of the state
+/// below makes an `Ended`.
 #[derive(Drop)]
 pub struct Ended {
     is_leader: bool,
@@ -30,7 +31,7 @@ impl Model for Ended {
 }
 
 impl Ended {
-    /// Whether this one was the last to arrive.
+    /// Returns whether the caller was the last to arrive.
     pub fn is_leader(&self) -> bool
         ensures { result ≡ self.now }
     {
@@ -88,7 +89,8 @@ impl<W> Rounds<W> {
         Some(Ended { is_leader: true })
     }
 
-    /// Arrives: the last one ends the round, and wakes all; the others wait, with the task that the exchange makes.
+    /// Arrives: the last caller ends the round, and wakes all waiters; the other callers wait, with the task that the exchange
+    /// makes.
     pub fn arrive<C, X: TaskExchange<W, C>, S: WakeSink<W>>(
         &mut self,
         exchange: &X,
@@ -120,7 +122,7 @@ impl<W> Rounds<W> {
         }
     }
 
-    /// Whether the round of this one has ended: then it leaves the queue.
+    /// Returns whether the round of this waiter has ended: then the waiter leaves the queue.
     pub fn look_for_end<C, X: TaskExchange<W, C>>(
         &mut self,
         key: Key,
@@ -142,7 +144,7 @@ impl<W> Rounds<W> {
         }
     }
 
-    /// Takes this one out of the queue. If its round had not ended, it has not arrived.
+    /// Takes this waiter out of the queue. If its round has not ended, the waiter counts as a caller that has not arrived.
     pub fn leave_round(&mut self, key: Key) -> Option<Ended>
     where
         W: Drop,
@@ -164,7 +166,8 @@ impl<W> Rounds<W> {
         }
     }
 
-    /// Nobody waits in vain: just those wait that have arrived in this round, and one at least has not.
+    /// States that nobody waits in vain: just the callers wait that have arrived in this round, and at least one party has not
+    /// arrived.
     pub fn nobody_waits_in_vain(&self)
         ensures { NobodyWaitsInVain self.now }
     {

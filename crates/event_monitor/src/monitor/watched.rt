@@ -1,4 +1,4 @@
-//! The state of a monitor: a value, and those that wait for something of it.
+//! The state of a monitor: a value, and the waiters for conditions on it.
 ghost use Rattle.std.specs.Prelude.{◌≡◌, [], None, IfErr, IfOk, IfSome, IsSome, OnErr};
 ghost use Rattle.std.specs.Fn.{FnOnceReturnsAtMut};
 ghost use Rattle.std.specs.List.{FoldsTo};
@@ -33,15 +33,15 @@ pub trait Condition<V> {
         ensures kept { result ≡ None → value.new ≡ value.old };
 }
 
-/// One that waits: for what, and its task.
+/// A waiter: its condition, and its task.
 #[derive(Drop)]
 pub struct Waiter<C, W> {
     pub(crate) condition: C,
     pub(crate) task: W,
 }
 
-/// A value, and the queue of those that wait for something of it. Whoever waits, and is not notified, has stored its task, and
-/// waits for something of which an attempt gives nothing as the value is.
+/// A value, and the queue of the waiters for conditions on it. Each waiter that is not notified has stored its task, and an
+/// attempt of its condition gives nothing of the value as it is.
 #[derive(Drop)]
 pub struct Watched<V, C: Condition<V>, W> {
     value: V,
@@ -87,7 +87,7 @@ impl<V, C: Condition<V> + Copy, W: Drop> Watched<V, C, W> {
         answer
     }
 
-    /// One attempt. If it gives something, which may change the value, all that wait are notified.
+    /// Attempts the condition once. If the attempt gives something, which may change the value, all waiters are notified.
     pub fn attempt<K: WakeSink<W>>(&mut self, condition: C, sink: &mut K) -> Option<C::Output>
         ensures gave { IfSome result (λ output.
             C.gives condition self.old.value output self.new.value) }
@@ -102,8 +102,9 @@ impl<V, C: Condition<V> + Copy, W: Drop> Watched<V, C, W> {
         Some(output)
     }
 
-    /// One attempt. If it gives something, this one leaves the queue, and all others that wait are notified; else it waits for
-    /// that, with the task that the exchange makes, at its place, or at the end where it was notified or is new.
+    /// Attempts the condition once. If the attempt gives something, the caller leaves the queue, and all other waiters are
+    /// notified. Else the caller waits for its condition, with the task that the exchange makes: at its place, or at the end of
+    /// the queue if it was notified or is new.
     pub fn attempt_or_wait<O, X: TaskExchange<W, O>, K: WakeSink<W>>(
         &mut self,
         key: Option<Key>,
@@ -127,7 +128,8 @@ impl<V, C: Condition<V> + Copy, W: Drop> Watched<V, C, W> {
         }
     }
 
-    /// Takes this one, if it is one, out of the queue. Nobody is to be notified in its place, since all are at each change.
+    /// Takes the waiter with this key, if there is a key, out of the queue. Nobody need be notified in its place, since each
+    /// change notifies all waiters.
     pub fn cancel(&mut self, key: Option<Key>)
         ensures value { self.new.value ≡ self.old.value }
         ensures left { Leaves key self.old.line self.new.line }
@@ -135,8 +137,8 @@ impl<V, C: Condition<V> + Copy, W: Drop> Watched<V, C, W> {
         leave(&mut self.line, key);
     }
 
-    /// Nobody waits in vain: whoever waits, and is not notified, has stored its task, and an attempt of it gives nothing of the
-    /// value as it is.
+    /// States that nobody waits in vain: each waiter that is not notified has stored its task, and an attempt of its condition
+    /// gives nothing of the value as it is.
     pub fn nobody_waits_in_vain(&self)
         ensures { NobodyWaitsInVain C.fails self.now }
     {
@@ -144,7 +146,7 @@ impl<V, C: Condition<V> + Copy, W: Drop> Watched<V, C, W> {
     }
 }
 
-// Makes one change.
+// Makes one change of the value.
 #[inline(always)]
 fn made<V, A, F: FnOnce(&mut V) -> A>(value: &mut V, change: F) -> A
     requires { F.IsAlwaysCallable change }
@@ -153,7 +155,7 @@ fn made<V, A, F: FnOnce(&mut V) -> A>(value: &mut V, change: F) -> A
     change(value)
 }
 
-// Notifies all that wait, and wakes their tasks.
+// Notifies all waiters, and wakes their tasks.
 fn wake_all<C: Copy, W, K: WakeSink<W>>(line: &mut List<(), Waiter<C, W>>, sink: &mut K)
     ensures told { TellsAll line.old line.new }
     ensures wakes { FoldsTo K.woke sink.old (woken_tasks line.old) sink.new }
@@ -163,7 +165,7 @@ fn wake_all<C: Copy, W, K: WakeSink<W>>(line: &mut List<(), Waiter<C, W>>, sink:
     let Tasks { sink: _ } = tasks;
 }
 
-// Wakes the tasks of those that it is handed.
+// A sink that wakes the tasks of the waiters that it is handed.
 #[derive(Drop)]
 struct Tasks<'s, K> {
     sink: &'s mut K,
@@ -182,7 +184,7 @@ impl<'s, C: Copy, W, K: WakeSink<W>> WakeSink<Waiter<C, W>> for Tasks<'s, K> {
     }
 }
 
-// Has one wait for this: at its place, or at the end of the queue if it was notified or is new.
+// Has a caller wait for this condition: at its place, or at the end of the queue if it was notified or is new.
 fn watch_in_line<C: Copy, W, O, X: TaskExchange<W, O>>(
     line: &mut List<(), Waiter<C, W>>,
     key: Option<Key>,
@@ -207,7 +209,7 @@ fn watch_in_line<C: Copy, W, O, X: TaskExchange<W, O>>(
     )
 }
 
-// Makes one that waits for this of the task that the exchange makes.
+// An exchange that makes a waiter for this condition of the task that another exchange makes.
 #[derive(Drop)]
 struct Watching<'x, C, X> {
     condition: C,
@@ -230,7 +232,7 @@ impl<'x, C: Copy, W, O, X: TaskExchange<W, O>> TaskExchange<Waiter<C, W>, O>
     }
 }
 
-// The task of one that waits, if there is one.
+// Returns the task of the waiter, if there is a waiter.
 fn task_in<C: Copy, W>(waiter: Option<Waiter<C, W>>) -> Option<W>
     ensures { result ≡ stored_by waiter }
 {

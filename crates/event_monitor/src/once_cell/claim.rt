@@ -1,4 +1,4 @@
-//! What a cell has for one that would make its value.
+//! What a cell has for a caller that would make its value.
 ghost use Rattle.std.specs.Prelude.{◌≡◌, IfErr, IfOk};
 
 use super::OnceCell;
@@ -38,7 +38,7 @@ impl<'a, T, R: Wait + Clock> Vacant<'a, T, R> {
         }
     }
 
-    // One that sets the value itself needs it no more.
+    // Ends the turn without giving it back: a caller that sets the value itself needs the turn no more.
     pub(super) fn spend(self) {
         let Vacant {
             cell: _,
@@ -47,7 +47,7 @@ impl<'a, T, R: Wait + Clock> Vacant<'a, T, R> {
         } = self;
     }
 
-    // What the cell has, once it has one.
+    // Sets this value, if the cell has none yet, and returns the value that the cell has.
     pub(super) fn fill(self, value: T) -> &'a T
     where
         T: Drop,

@@ -25,13 +25,13 @@ use std::time::Clock;
 #[must_use = "nothing is asked for until it is polled"]
 #[derive(Drop)]
 pub struct Initializing<'a, T, R: Wait + Clock, M> {
-    // The maker is dropped first: the next one's is polled only once it is gone.
+    // The maker is dropped before the turn: the next caller's maker is polled only once this maker is gone.
     maker: M,
     turn: Option<Vacant<'a, T, R>>,
     claiming: Claiming<'a, T, R>,
 }
 
-/// A maker that can't fail, in the place of one that could.
+/// A maker that can't fail, in the place of a maker that could.
 #[derive(Drop)]
 pub struct Surely<M> {
     pub maker: M,
@@ -63,7 +63,7 @@ impl<'a, T, R: Wait + Clock, M> Initializing<'a, T, R, M> {
         }
     }
 
-    // Its turn, or the value if it is set. A turn that it has is handed out.
+    // Returns the turn, or the value if it is set. A turn that the future has already is handed out.
     fn poll_claim(&mut self, cx: &mut Context<'_>) -> Poll<Result<Claim<'a, T, R>, PollError>>
         ensures maker { self.new.maker ≡ self.old.maker }
         ensures turn { self.new.has_turn ≡ false }

@@ -18,22 +18,23 @@ use event_wait::{Attempted, Task};
 use std::alloc::Global;
 use std::marker::Model;
 
-/// The value is set. Only a step of the state below makes one.
+/// A proof that the value is set. Only a step of the state below makes an `IsSet`.
 #[derive(Clone, Copy)]
 pub struct IsSet(());
 
-/// What one is to do that would make the value.
+/// What a caller is to do that would make the value.
 #[derive(Clone, Copy)]
 pub enum Turn {
     /// Make the value.
     Make,
-    /// It has made the value.
+    /// Nothing more: the caller has made the value.
     Made,
     /// Use the value: it is set.
     Use,
 }
 
-/// Whether somebody makes the value, whether it is set, those that would make it, and those that wait for it.
+/// Whether somebody makes the value, whether the value is set, the queue of the waiters that would make it, and the queue of
+/// the waiters that would use it.
 #[derive(Drop)]
 pub struct Once<W> {
     making: usize,
@@ -72,7 +73,7 @@ impl<W> Once<W> {
         }
     }
 
-    /// The turn of one that would make the value, unless another one makes it.
+    /// Returns the turn of a newcomer that would make the value, unless another caller makes it or is notified to make it.
     pub fn try_make(&mut self) -> Option<Turn>
         ensures kept { self.new.is_set ≡ self.old.is_set }
         ensures turn { IfSome result (λ turn. turn ≡ turn_at self.old) }
@@ -92,7 +93,7 @@ impl<W> Once<W> {
         Some(Turn::Make)
     }
 
-    /// Whether the value is set, for one that comes to use it.
+    /// Returns whether the value is set, for a newcomer that would use it.
     pub fn try_use(&self) -> Option<IsSet>
         ensures { MatchOption result (self.now.is_set ≡ false) (λ _. self.now.is_set ≡ true) }
     {
@@ -102,8 +103,8 @@ impl<W> Once<W> {
         None
     }
 
-    /// The turn of one that comes to make the value; it waits while another one makes it, with the task that the exchange
-    /// makes.
+    /// Returns the turn of a newcomer that would make the value. The newcomer waits while another caller makes the value, with
+    /// the task that the exchange makes.
     pub fn come_to_make<C, X: TaskExchange<W, C>>(
         &mut self,
         exchange: &X,
@@ -128,8 +129,8 @@ impl<W> Once<W> {
         waiting(join_line(&mut self.makers, exchange, on))
     }
 
-    /// That the value is set, for one that comes to use it; it waits until the value is set, with the task that the exchange
-    /// makes.
+    /// Returns that the value is set, to a newcomer that would use it. The newcomer waits until the value is set, with the task
+    /// that the exchange makes.
     pub fn come_to_use<C, X: TaskExchange<W, C>>(
         &mut self,
         exchange: &X,
@@ -151,7 +152,7 @@ impl<W> Once<W> {
         waiting(join_line(&mut self.readers, exchange, on))
     }
 
-    /// What this one is to do, if it is its turn: then it leaves the queue.
+    /// Returns what this waiter is to do, if it is the waiter's turn: then the waiter leaves the queue.
     pub fn look_to_make<C, X: TaskExchange<W, C>>(
         &mut self,
         key: Key,
@@ -179,7 +180,7 @@ impl<W> Once<W> {
         }
     }
 
-    /// Whether the value is set, for one that waits for it: then it leaves the queue.
+    /// Returns whether the value is set, for a waiter that would use it: then the waiter leaves the queue.
     pub fn look_to_use<C, X: TaskExchange<W, C>>(
         &mut self,
         key: Key,
@@ -199,7 +200,7 @@ impl<W> Once<W> {
         }
     }
 
-    /// Takes one out of the queue that would make the value, with its turn if it came up.
+    /// Takes a waiter that would make the value out of its queue, and returns its turn if the waiter was notified.
     pub fn leave_making(&mut self, key: Key) -> Option<Turn>
     where
         W: Drop,
@@ -221,7 +222,7 @@ impl<W> Once<W> {
         Some(Turn::Make)
     }
 
-    /// Takes one out of the queue that waits for the value.
+    /// Takes a waiter that would use the value out of its queue. Returns that the value is set, if the waiter was notified.
     pub fn leave_using(&mut self, key: Key) -> Option<IsSet>
     where
         W: Drop,
@@ -238,7 +239,7 @@ impl<W> Once<W> {
         None
     }
 
-    /// Whoever gives its turn up hands it to the next.
+    /// Gives the turn up, and hands it to the next waiter that would make the value.
     pub fn give_up<S: WakeSink<W>>(&mut self, sink: &mut S)
         ensures kept { self.new.is_set ≡ self.old.is_set }
         ensures next { 0 < self.old.making → (self.new.making ≡ 0)
@@ -253,7 +254,7 @@ impl<W> Once<W> {
         hand_out(&mut self.makers, 1, sink);
     }
 
-    /// The value is set, and nobody waits any more.
+    /// Notes that the value is set, and notifies all waiters: nobody waits any more.
     pub fn set<S: WakeSink<W>>(&mut self, sink: &mut S)
         ensures set { (self.new.is_set ≡ true) × (self.new.making ≡ 0) }
         ensures makers { TellsAll self.old.makers self.new.makers }
@@ -268,7 +269,8 @@ impl<W> Once<W> {
         hand_all(&mut self.readers, sink);
     }
 
-    /// Nobody waits in vain: while the value is not set, one makes it or nobody waits to; once it is set, nobody waits.
+    /// States that nobody waits in vain: while the value is not set, somebody makes it or nobody waits to make it; once the
+    /// value is set, nobody waits.
     pub fn nobody_waits_in_vain(&self)
         ensures { NobodyWaitsInVain self.now }
     {

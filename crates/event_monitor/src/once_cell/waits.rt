@@ -178,14 +178,14 @@ impl<'a, T, R: Wait + Clock> Future for Seeing<'a, T, R> {
     }
 }
 
-// The value, without the lock, for one that waits in no queue.
+// Returns the value, if it is set, without the lock. The caller waits in no queue.
 #[inline(always)]
 fn at_hand<'a, T, R>(asking: Option<&Asking<'a, T, R>>) -> Option<&'a T> {
     let cell = asking?.cell;
     cell.get()
 }
 
-/// Borrows a cell and the runtime.
+/// A borrow of a cell, and of the runtime.
 #[derive(Drop)]
 pub(crate) struct Asking<'a, T, R> {
     cell: &'a OnceCell<T>,
@@ -213,7 +213,7 @@ impl<'a, T, R: Wait + Clock> Asking<'a, T, R> {
         cell.claimed(rt, turn)
     }
 
-    // The value is set before the state says so, so this waits for nobody.
+    // Returns the value. The value is set before the state says so, so the call waits for nobody.
     fn seen(self) -> &'a T {
         let Asking { cell, rt } = self;
         cell.value.wait(rt)
