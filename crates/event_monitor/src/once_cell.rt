@@ -144,7 +144,7 @@ impl<T> OnceCell<T> {
     /// caller has the turn.
     ///
     /// If the value is set the call takes no lock. It blocks while another caller is making the value. `make` runs with no lock
-    /// held, but must not ask for the value of the same cell: it would wait for itself.
+    /// held, but must not ask for the value of the same cell: the call would wait for itself.
     pub fn get_or_try_init<'a, R, E, F>(
         &'a self,
         rt: &'a R,
@@ -216,7 +216,7 @@ impl<T> OnceCell<T> {
     /// Returns the value, and makes it by `make`, which can't fail, if it is not set. Blocks while another caller is making the
     /// value.
     ///
-    /// `make` must not ask for the value of the same cell: it would wait for itself.
+    /// `make` must not ask for the value of the same cell: the call would wait for itself.
     pub fn get_or_init<'a, R, F>(
         &'a self,
         rt: &'a R,

@@ -38,7 +38,7 @@ pub struct Lock<'a, T: Drop, R: Wait + Clock> {
 /// A wait for the value of a mutex that keeps the mutex by a share of its `Arc`, so that the wait and its guard may go to
 /// another thread.
 ///
-/// It is waited on, awaited and dropped like a [`Lock`].
+/// A `LockArc` is waited on, awaited and dropped like a [`Lock`].
 #[must_use = "nothing is asked for until it is waited on or polled"]
 #[derive(Drop)]
 pub struct LockArc<T: Drop, R: Wait + Clock + Drop> {

@@ -40,7 +40,7 @@ pub struct Read<'a, T, R: Wait + Clock> {
 /// A wait for the right to read the value of a read-write lock that keeps the lock by a share of its `Arc`, so that the wait
 /// and its guard may go to another thread.
 ///
-/// It is waited on, awaited and dropped like a [`Read`].
+/// A `ReadArc` is waited on, awaited and dropped like a [`Read`].
 #[must_use = "nothing is asked for until it is waited on or polled"]
 #[derive(Drop)]
 pub struct ReadArc<T: Drop, R: Wait + Clock + Drop> {
@@ -199,7 +199,7 @@ pub struct Write<'a, T, R: Wait + Clock> {
 /// A wait for the right to write the value of a read-write lock that keeps the lock by a share of its `Arc`, so that the wait
 /// and its guard may go to another thread.
 ///
-/// It is waited on, awaited and dropped like a [`Write`].
+/// A `WriteArc` is waited on, awaited and dropped like a [`Write`].
 #[must_use = "nothing is asked for until it is waited on or polled"]
 #[derive(Drop)]
 pub struct WriteArc<T: Drop, R: Wait + Clock + Drop> {

@@ -40,7 +40,7 @@ pub struct Acquire<'a, R: Wait + Clock> {
 /// A wait for one permit that keeps the semaphore by a share of its `Arc`, so that the wait and its guard may go to another
 /// thread.
 ///
-/// It is waited on, awaited and dropped like an [`Acquire`].
+/// An `AcquireArc` is waited on, awaited and dropped like an [`Acquire`].
 ///
 /// The first `?` propagates an `AllocError`, if no further share could be counted, and the second an error of the wait:
 ///

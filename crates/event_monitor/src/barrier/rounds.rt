@@ -59,7 +59,7 @@ impl<W> Model for Rounds<W> {
 }
 
 impl<W> Rounds<W> {
-    /// Nobody has arrived.
+    /// Makes the state of a barrier at which nobody has arrived.
     pub fn new(alloc: Global, parties: usize) -> Self
         ensures parties { result.parties ≡ parties }
         ensures arrived { result.arrived ≡ 0 }

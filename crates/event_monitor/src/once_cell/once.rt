@@ -60,7 +60,7 @@ impl<W> Model for Once<W> {
 }
 
 impl<W> Once<W> {
-    /// Nobody makes the value.
+    /// Makes the state of a cell whose value nobody makes yet.
     pub fn new(alloc: Global) -> Self
         ensures unset { result.is_set ≡ false }
         ensures idle { result.making ≡ 0 }
@@ -269,8 +269,8 @@ impl<W> Once<W> {
         hand_all(&mut self.readers, sink);
     }
 
-    /// States that nobody waits in vain: while the value is not set, somebody makes it or nobody waits to make it; once the
-    /// value is set, nobody waits.
+    /// States that nobody waits in vain: while the value is not set, a caller makes it or is notified to make it, or nobody
+    /// waits to make it; once the value is set, nobody waits.
     pub fn nobody_waits_in_vain(&self)
         ensures { NobodyWaitsInVain self.now }
     {
