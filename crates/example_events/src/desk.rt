@@ -1,4 +1,4 @@
-//! A desk that one at a time sits at: a guard that notifies in its drop, and a future that loops.
+//! A desk at which one visitor at a time sits: a guard that notifies in its drop, and a future that loops.
 
 use event_listener::{Event, EventId, EventListener, ListenError, Listener, NeverInserted};
 use futures::Future;
@@ -9,7 +9,7 @@ use std::sync::atomic::{AtomicBool, Ordering};
 use std::time::Clock;
 use thiserror::Error;
 
-/// A desk that one at a time sits at.
+/// A desk at which one visitor at a time sits.
 #[derive(Drop)]
 pub struct Desk {
     is_taken: AtomicBool,
@@ -17,7 +17,7 @@ pub struct Desk {
 }
 
 impl Desk {
-    /// A desk at which nobody sits.
+    /// Makes a desk at which nobody sits.
     pub fn new(id: EventId) -> Self {
         Desk {
             is_taken: AtomicBool::new(false),
@@ -25,7 +25,7 @@ impl Desk {
         }
     }
 
-    /// The seat, if nobody has it.
+    /// Takes the seat, if nobody has it.
     pub fn try_sit<'a, R: Wait>(&'a self, rt: &'a R) -> Option<Seat<'a, R>> {
         if self.is_taken.swap(true, Ordering::SeqCst) {
             return None;
@@ -33,7 +33,7 @@ impl Desk {
         Some(Seat { desk: self, rt })
     }
 
-    /// The seat once it is free, as a future.
+    /// Returns a future that takes the seat once it is free.
     pub fn sit<'a, R: Wait + Clock + Clone>(&'a self, rt: &'a R, alloc: Global) -> Sitting<'a, R> {
         Sitting {
             desk: self,
@@ -46,7 +46,7 @@ impl Desk {
 
 /// The seat at a desk. Dropping it frees the desk, and then notifies one listener.
 ///
-/// It keeps the runtime value for its drop, which may wait for the lock of the event.
+/// The seat keeps the runtime value for its drop, which may wait for the lock of the event.
 pub struct Seat<'a, R: Wait> {
     desk: &'a Desk,
     rt: &'a R,
@@ -61,9 +61,9 @@ impl<R: Wait> Drop for Seat<'_, R> {
     }
 }
 
-/// The seat at a desk, as a future. Once it has given the seat, or an error, it may be polled for another.
+/// The seat at a desk, as a future. Once the future has given the seat, or an error, it may be polled for another.
 ///
-/// Dropping it gives up. Its listener is dropped with it, and propagates its notification if it has one.
+/// Dropping the future gives up. Its listener is dropped with it, and propagates its notification if it has one.
 #[derive(Drop)]
 pub struct Sitting<'a, R: Wait + Clock + Clone> {
     desk: &'a Desk,

@@ -38,8 +38,8 @@ impl Flag {
         self.set.notify_relaxed(rt, usize::MAX);
     }
 
-    /// A listener that is notified when the flag is set, for a task or a wait with a limit. Look at the flag once it is
-    /// made: a flag that was set before does not notify it.
+    /// Returns a listener that is notified when the flag is set, for a task or a wait with a limit. Look at the flag once the
+    /// listener is made: a flag that was set before does not notify the listener.
     pub fn listen<R>(
         &self,
         rt: &R,
@@ -52,7 +52,7 @@ impl Flag {
         self.set.listen(rt, alloc)
     }
 
-    /// How many listeners the flag has, those of threads that wait among them.
+    /// Returns how many listeners the flag has, the listeners of waiting threads among them.
     pub fn total_listeners<R: Wait>(&self, rt: &R) -> usize {
         self.set.total_listeners(rt)
     }
@@ -97,7 +97,7 @@ impl Model for Flag {
     ghost view = { λ flag. flag.set };
 }
 
-/// Two flags of one source, whose events are not the same.
+/// Makes two flags of one source, whose events are different.
 pub fn pair(ids: &mut EventIds) -> Result<(Flag, Flag), IdsUsedUp>
     ensures differ { IfOk result (λ flags. flags.0 ≢ flags.1) }
     ensures refused { OnErr result (2 ^ 64 ≤ ids.old + 2) }

@@ -1,4 +1,4 @@
-//! A thread that listens while another one notifies, and hears it.
+//! A thread that listens while another thread notifies, and hears of it.
 ghost use Rattle.std.specs.Prelude.{◌≡◌, true, IfOk};
 ghost use Rattle.event_listener.specs.Heard.{NotifiesAll};
 
@@ -12,7 +12,7 @@ use std::thread::{self, Threads};
 use std::time::Clock;
 use thiserror::Error;
 
-/// Why nobody listened, or no other thread notified.
+/// Why the thread could not listen, or no other thread notified.
 #[derive(Clone, Copy, Debug, PartialEq, Eq, Error)]
 pub enum HeardError {
     #[error("{0}")]
@@ -21,8 +21,8 @@ pub enum HeardError {
     Memory(#[from] AllocError),
 }
 
-/// Listens, has another thread notify all that listen, and returns whether the listener was notified: it was, whatever
-/// other threads do with the event meanwhile.
+/// Listens, has another thread notify all listeners, and returns whether the listener was notified: it was, whatever other
+/// threads do with the event meanwhile.
 ///
 /// Returns an error if memory runs out or the event has given out all serial numbers: then nobody notifies, and no listener
 /// is left. The call allocates. It waits for the other thread, and may wait for the lock of the event.

@@ -1,7 +1,7 @@
-//! A thread that waits for a flag until another one has set it.
+//! A thread that waits for a flag until another thread has set it.
 //!
-//! Who waits looks at the flag, listens, looks again, and only then waits; who sets it notifies afterwards. Both begin at
-//! once, so that either may come first.
+//! The waiting thread looks at the flag, listens, looks again, and only then waits; the setting thread sets the flag, and
+//! notifies afterwards. Both begin at once, so that either may be first.
 use crate::flag::{Flag, FlagError};
 use event_listener::EventId;
 use std::alloc::{AllocError, Global};
@@ -33,7 +33,7 @@ where
     Ok(())
 }
 
-// A flag, and a thread that sets it.
+// Makes a flag, and starts a thread that sets it.
 fn start_setter<R>(
     rt: R,
     alloc: Global,

@@ -8,13 +8,14 @@ use std::alloc::Global;
 use std::sync::Wait;
 use std::time::Clock;
 
-/// Two listen, one is notified, and the first is dropped. Returns whether the second was notified then, if the first was: it
-/// was, whatever other threads do with the event meanwhile. `None`, if a third one listens too when they are counted, or the
-/// first was not notified.
+/// Makes two listeners, notifies one of them, and drops the first. Returns whether the second was notified then, if the first
+/// was: it was, whatever other threads do with the event meanwhile. Returns `None` if a third listener listens too when the
+/// listeners are counted, or if the first was not notified.
 ///
-/// A third one that listened before the second would be the next; one that listens later is behind it. The order of the calls
-/// is known as each hand knows what came before: this one hears that both listen before it counts them, the first takes that
-/// in before it is dropped, and the second takes in that drop before it is removed.
+/// A third listener that listened before the second would be the next; a listener that listens later is behind the second. The
+/// order of the calls is known because each hand knows which calls were made before: `hand` hears that both listen before it
+/// counts the listeners, the first listener learns of that count before it is dropped, and the second learns of that drop
+/// before it is removed.
 ///
 /// Returns an error if memory runs out or the event has given out all serial numbers: then no listener is left. The call
 /// allocates, and may wait for the lock of the event.

@@ -1,4 +1,4 @@
-//! Listeners in tasks: one that is awaited, and a future over two events.
+//! Listeners in tasks: a listener that is awaited, and a future over two events.
 ghost use Rattle.std.specs.Prelude.{◌≡◌, ◌⊎◌};
 
 use event_listener::{Event, EventListener, ListenError, Listener, NeverInserted};
@@ -39,10 +39,10 @@ pub enum Order {
     Stop,
 }
 
-/// The next order, as a future: a stop, or else the work that came.
+/// The next order, as a future: a stop, or else the work that was ordered.
 ///
-/// Once it gives its order it is done. The listener that is left is dropped with it, and propagates its notification
-/// if it has one.
+/// Once the future gives its order it is done. The listener that is left is dropped with the future, and propagates its
+/// notification if it has one.
 #[derive(Drop)]
 pub struct NextOrder<R: Wait + Clock + Clone> {
     stop: EventListener<(), R>,

@@ -6,7 +6,7 @@ use std::fmt::{Debug, Display};
 use std::process::ExitCode;
 
 /// Prints `Done!` if the program's threads ended with what was wanted. Else it prints their fault to the standard error, or
-/// what they ended with, and the status is 1. So it is where `Done!` can't be printed, which is a fault, too.
+/// what they ended with, and the status is 1. The same holds where `Done!` can't be printed, which is a fault, too.
 ///
 /// The call neither allocates nor waits.
 pub fn finish<P, A, E>(screen: &P, ended: Result<A, E>, wanted: A) -> ExitCode
@@ -31,7 +31,7 @@ where
     }
 }
 
-// The status says it where the fault can't be printed.
+// Prints a fault, and returns the status 1, which shows the fault where it can't be printed.
 fn fail<P: Eprint, F: Display + Drop>(screen: &P, fault: F) -> ExitCode
     ensures { exit_status result ≡ 1 }
 {

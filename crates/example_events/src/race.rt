@@ -35,7 +35,7 @@ where
     Ok(flag.close(hands)?)
 }
 
-// What the thread of a hand does. It gives the hand back. One that fails for memory does not wait.
+// Does what the thread of a hand does, and returns the hand. A thread that fails for memory does not wait.
 fn take_part<R>(rt: &R, flag: &RecordedFlag, hand: Hand<()>) -> Hand<()>
 where
     R: Wait + Clock + Clone,

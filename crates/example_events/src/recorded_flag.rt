@@ -10,7 +10,7 @@ use std::sync::Wait;
 use std::sync::atomic::{AtomicBool, Ordering};
 use std::time::Clock;
 
-/// A flag that is set once, and that threads wait for, each with a hand of its own. A contract sees it as its event.
+/// A flag that is set once, and that threads wait for, each with a hand of its own. A contract sees the flag as its event.
 #[derive(Drop)]
 pub struct RecordedFlag {
     is_set: AtomicBool,
@@ -18,7 +18,7 @@ pub struct RecordedFlag {
 }
 
 impl RecordedFlag {
-    /// A flag that is not set, and that many hands.
+    /// Makes a flag that is not set, and that many hands.
     pub fn new(
         alloc: Global,
         id: EventId,
@@ -36,14 +36,14 @@ impl RecordedFlag {
         Ok((flag, hands))
     }
 
-    /// Whether the hand is one of this flag's.
+    /// Returns whether the hand is a hand of this flag.
     pub fn owns(&self, hand: &Hand<()>) -> bool
         ensures { IsTrue result ↔ Owns self.now hand.now }
     {
         self.set.owns(hand)
     }
 
-    /// Whether the flag is set.
+    /// Returns whether the flag is set.
     pub fn is_set(&self) -> bool {
         self.is_set.load(Ordering::SeqCst)
     }
@@ -84,7 +84,7 @@ impl RecordedFlag {
         unreachable!()
     }
 
-    /// Ends the flag, and gives the record of its event.
+    /// Ends the flag, and returns the record of its event.
     pub fn close(self, hands: Vec<Hand<()>>) -> Result<Record<()>, CloseError>
         requires { All (λ hand. Owns self hand) hands.items }
         ensures notes { IfOk result (λ entries.

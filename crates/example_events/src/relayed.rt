@@ -8,7 +8,7 @@ use thiserror::Error;
 
 /// Listens, and waits for the tag.
 ///
-/// A wait that fails for memory returns its listener. It is dropped here, which propagates its notification.
+/// A wait that fails for memory returns its listener. The listener is dropped here, which propagates its notification.
 pub fn wait_for_tag<R>(rt: &R, alloc: Global, event: &Event<u32>) -> Result<u32, TagError>
 where
     R: Wait + Clock + Clone,
@@ -26,7 +26,7 @@ pub enum TagError {
     Wait(#[from] WaitReason),
 }
 
-// What a `?` makes of a failed wait, whatever its listener.
+// Makes a `TagError` of a failed wait for a `?`, whatever listener the wait had.
 impl<L: Drop> From<WaitError<L>> for TagError {
     fn from(error: WaitError<L>) -> TagError {
         TagError::Wait(error.reason())

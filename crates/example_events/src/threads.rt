@@ -4,9 +4,9 @@ use std::sync::{Arc, Wait};
 use std::thread::{self, JoinHandle, Threads};
 use std::time::Clock;
 
-/// What several threads do, each once, that share it. The fault of one that fails is an `E`.
+/// The work that several threads share, and that each of them does once. The fault of a thread that fails is an `E`.
 pub trait Work<E>: Drop + Send + Sync + 'static {
-    /// What the thread does that is started in this place, counted from 0.
+    /// Does the work of the thread that is started in this place, counted from 0.
     fn work<R>(&self, rt: &R, alloc: Global, place: usize) -> Result<(), E>
     where
         R: Wait + Clock + Clone;
@@ -14,9 +14,10 @@ pub trait Work<E>: Drop + Send + Sync + 'static {
 
 /// Starts that many threads, each of which does the work, and joins them.
 ///
-/// Returns the fault of the first that failed, in the order in which they were started and not in that in which they failed.
-/// If none did, the fault that is made of an [`AllocError`] says that one was not started, for want of memory or of a thread.
-/// Whatever failed, each thread that was started has ended. The call allocates, and waits for the threads.
+/// Returns the fault of the first thread that failed, in the order in which the threads were started and not in that in which
+/// they failed. If no thread failed, the fault that is made of an [`AllocError`] says that a thread was not started, for want
+/// of memory or of a thread. Whatever failed, each thread that was started has ended. The call allocates, and waits for the
+/// threads.
 pub fn run_threads<R, E, W>(rt: R, alloc: Global, work: &Arc<W>, threads: usize) -> Result<(), E>
 where
     R: Threads + Wait + Clock + Copy + Send + Sync + 'static,
@@ -34,7 +35,7 @@ where
     Ok(())
 }
 
-// Starts the threads. The list has those that were started, also if a later one was not.
+// Starts the threads. The list has the threads that were started, also if a later thread was not.
 fn start<R, E, W>(
     rt: R,
     alloc: Global,

@@ -19,11 +19,11 @@ pub fn tag_by<T, L: Listener<T>>(listener: L, deadline: Instant) -> Result<Optio
     }
 }
 
-/// The tag, if the listener is notified within the limit, and else `None`.
+/// Returns the tag, if the listener is notified within the limit, and else `None`.
 ///
-/// The limit becomes a deadline once, so a second wait adds nothing to it: see [`tag_by`]. A limit that ends too late
-/// to be represented is none. If the clock can't be read the time counts as up: the listener gives the tag that it
-/// has. In these two cases the wait is not tried again.
+/// The limit becomes a deadline once, so a second wait adds nothing to the time: see [`tag_by`]. A limit that ends too late to
+/// be represented is no limit. If the clock can't be read the time counts as up: the listener gives the tag that it has. In
+/// these two cases the wait is not tried again.
 pub fn tag_within<R: Clock, T, L: Listener<T>>(
     rt: &R,
     listener: L,

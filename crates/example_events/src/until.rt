@@ -1,8 +1,7 @@
-//! What threads and tasks wait for over [`event_until`], one a file: each says what one
-//! [`Attempt`](event_until::Attempt) is and whom a drop notifies, and nothing else of a wait is written here. Locks are
-//! in `event_locks`.
+//! What threads and tasks wait for over [`event_until`]. Each file says what one [`Attempt`](event_until::Attempt) is and which
+//! listeners a drop notifies, and writes nothing else of a wait. Locks are in `event_locks`.
 //!
-//! - [`Gate`]: it is opened once, and all who wait for it go on.
+//! - [`Gate`]: it is opened once, and all its waiters go on.
 //! - [`Watch`]: the latest value, for many readers; each gets a newer one than it has seen, which is a clause of
 //!   `wait_newer`.
 //! - [`Baton`]: one at a time has it, by a guard that owns its runtime value.

@@ -1,9 +1,9 @@
 //! The way of a client to what it wants, be that a lock or a permit.
 //!
-//! What can be wanted is [`Contended`]. A client takes it by [`try_once`], [`take`] or [`take_timeout`], and has it as
-//! [`Held`] then. It can do two things with that, in this order: [`Held::free`] makes a [`Releasing`], and
-//! [`Releasing::notify`] ends that. Neither is a `Drop`, so whoever has one has to go on, and nobody notifies before it
-//! frees.
+//! What can be wanted is [`Contended`]. A client takes it by [`try_once`], [`take`] or [`take_timeout`], and has it as [`Held`]
+//! then. The client can do two things with a `Held`, in this order: [`Held::free`] makes a [`Releasing`], and
+//! [`Releasing::notify`] ends the `Releasing`. Neither is a `Drop`, so a client that has a `Held` or a `Releasing` has to go
+//! on, and no client notifies before it frees.
 ghost use Rattle.std.specs.Prelude.{◌≡◌, IsSome, IsNone, IfOk, IfSome, Some};
 ghost use Rattle.event_worlds.specs.ClientTable.{place_after};
 ghost use Rattle.event_worlds.specs.declared.world.place.News.TheVariants as news;
@@ -32,17 +32,17 @@ pub trait Contended<'a>: Copy {
     // What a try may have taken.
     ghost is_new: { Self.Taken → Type 0 };
 
-    /// The clients that want it.
+    /// Returns the clients that want it.
     fn clients(self) -> &'a Clients;
 
-    /// Takes it if it is free: one try. The call neither allocates nor waits.
+    /// Tries once: takes what is wanted, if it is free. The call neither allocates nor waits.
     fn try_take(self) -> Option<Self::Taken>
         ensures { IfSome result is_new };
 }
 
 /// The clients that want one lock, or permits of one semaphore: the event that they listen to while they wait.
 ///
-/// A contract sees it as the number of the event.
+/// A contract sees `Clients` as the number of the event.
 #[derive(Drop)]
 pub struct Clients {
     freed: Event,
@@ -57,7 +57,7 @@ impl Model for Clients {
 }
 
 impl Clients {
-    /// No clients yet.
+    /// Makes the list of the clients, of which there are none yet.
     ///
     /// The call neither allocates nor waits.
     pub fn new(id: EventId) -> Self
@@ -122,7 +122,7 @@ where
     take_within(contended, rt, alloc, Limit::after(rt, timeout))
 }
 
-// All waits have the one limit, however often the client is notified and comes too late.
+// All waits have the one limit, however often the client is notified and finds nothing.
 fn take_within<'a, C, R>(
     contended: C,
     rt: &R,
@@ -155,8 +155,8 @@ pub(crate) enum Turn<'a, V, R: Wait + Clock + Clone> {
     Waits(Waiting<R>),
 }
 
-/// Tries, listens, and tries again: if it was freed before the listener was in the queue, that notification did not reach
-/// the listener.
+/// Tries, listens, and tries again: if what is wanted was freed before the listener was in the queue, that notification did not
+/// reach the listener.
 pub(crate) fn try_twice<'a, C, R>(
     contended: C,
     rt: &R,
@@ -191,7 +191,7 @@ where
     }
 }
 
-// One try.
+// Tries once.
 fn try_take<'a, C: Contended<'a>>(contended: C, client: &mut Client) -> Option<C::Taken>
     requires got { IsSome (place_after client.old news.Got) }
     requires busy { IsSome (place_after client.old news.Busy) }

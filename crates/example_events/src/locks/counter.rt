@@ -9,7 +9,7 @@ use std::thread::Threads;
 use std::time::Clock;
 use thiserror::Error;
 
-/// Why the threads did not count to the end. Of several threads that fail this is the fault of the one that was started
+/// Why the threads did not count to the end. Of several threads that fail this is the fault of the thread that was started
 /// first.
 #[derive(Clone, Copy, Debug, PartialEq, Eq, Error)]
 pub enum CountError {
@@ -55,7 +55,7 @@ where
     Ok(*counter.count.lock(&rt))
 }
 
-// A counter that threads can share.
+// Makes a counter that threads can share.
 fn share<C: Drop>(alloc: Global, counter: C) -> Result<Arc<C>, AllocError> {
     Ok(Arc::new(alloc, counter)?)
 }
@@ -72,7 +72,7 @@ impl Work<CountError> for Mutex<u64> {
     }
 }
 
-// A counter that only those touch who have a permit.
+// A counter that only threads with a permit touch.
 #[derive(Drop)]
 struct PermitCounter {
     semaphore: Semaphore,

@@ -17,7 +17,7 @@ use std::time::{Clock, Duration};
 
 /// A value that one thread or task at a time can use.
 ///
-/// A contract sees it as the number of its event.
+/// A contract sees the mutex as the number of its event.
 #[derive(Drop)]
 pub struct Mutex<T> {
     // No thread waits for this lock: it is only tried.
@@ -34,7 +34,7 @@ impl<T> Model for Mutex<T> {
 }
 
 impl<T> Mutex<T> {
-    /// A free lock round this value.
+    /// Makes a free lock round this value.
     ///
     /// The call neither allocates nor waits.
     pub fn new(id: EventId, value: T) -> Self
@@ -46,7 +46,7 @@ impl<T> Mutex<T> {
         }
     }
 
-    /// The lock, if it is free. A client that finds it held goes no further.
+    /// Takes the lock, if it is free. A client that finds the lock held does not wait.
     ///
     /// The call neither allocates nor waits.
     #[must_use = "the lock is free once its guard is dropped"]
@@ -57,7 +57,8 @@ impl<T> Mutex<T> {
 
     /// Blocks the calling thread until it has the lock.
     ///
-    /// Returns an error if it can't listen or there is no memory for what the thread parks on. Either leaves no listener.
+    /// Returns an error if the thread can't listen or there is no memory for what the thread parks on. Either leaves no
+    /// listener.
     pub fn lock<'a, R>(
         &'a self,
         rt: &'a R,
@@ -70,9 +71,9 @@ impl<T> Mutex<T> {
         Ok(MutexGuard::new(rt, held))
     }
 
-    /// Blocks the calling thread until it has the lock or so much time has passed. Then the answer is `None`.
+    /// Blocks the calling thread until it has the lock or so much time has passed. Returns `None` if the time has passed.
     ///
-    /// Where the present moment and the timeout add up to one that can't be represented, it waits without a limit. A
+    /// Where the present moment and the timeout add up to a moment that can't be represented, the call waits without a limit. A
     /// clock that can't be read counts as one that shows the deadline. Refusals are those of [`lock`](Mutex::lock).
     pub fn lock_timeout<'a, R>(
         &'a self,
@@ -89,7 +90,7 @@ impl<T> Mutex<T> {
         Ok(Some(MutexGuard::new(rt, held)))
     }
 
-    /// A lock to be polled.
+    /// Returns a future that takes the lock, to be polled.
     ///
     /// The call neither allocates nor waits.
     pub fn polled_lock<'a, R>(&'a self, rt: &'a R, alloc: Global) -> PolledLock<'a, T, R>

@@ -16,7 +16,7 @@ use std::time::{Clock, Duration};
 
 /// Some permits, which threads take and give back.
 ///
-/// A contract sees it as the number of its event.
+/// A contract sees the semaphore as the number of its event.
 #[derive(Drop)]
 pub struct Semaphore {
     free: AtomicUsize,
@@ -32,7 +32,7 @@ impl Model for Semaphore {
 }
 
 impl Semaphore {
-    /// A semaphore with that many permits, all of them free.
+    /// Makes a semaphore with that many permits, all of them free.
     ///
     /// The call neither allocates nor waits.
     pub fn new(id: EventId, permits: usize) -> Self
@@ -44,7 +44,7 @@ impl Semaphore {
         }
     }
 
-    /// A permit, if one is free. A client that finds none goes no further.
+    /// Takes a permit, if one is free. A client that finds no permit does not wait.
     ///
     /// The call neither allocates nor waits.
     #[must_use = "a permit is free once it is dropped"]
@@ -57,7 +57,8 @@ impl Semaphore {
 
     /// Blocks the calling thread until it has a permit.
     ///
-    /// Returns an error if it can't listen or there is no memory for what the thread parks on. Either leaves no listener.
+    /// Returns an error if the thread can't listen or there is no memory for what the thread parks on. Either leaves no
+    /// listener.
     pub fn acquire<'a, R>(
         &'a self,
         rt: &'a R,
@@ -71,11 +72,10 @@ impl Semaphore {
         Ok(Permit::new(rt, held))
     }
 
-    /// Blocks the calling thread until it has a permit or so much time has passed. Then the answer is `None`.
+    /// Blocks the calling thread until it has a permit or so much time has passed. Returns `None` if the time has passed.
     ///
-    /// Where the present moment and the timeout add up to one that can't be represented, it waits without a limit. A
-    /// clock that can't be read counts as one that shows the deadline. Refusals are those of
-    /// [`acquire`](Semaphore::acquire).
+    /// Where the present moment and the timeout add up to a moment that can't be represented, the call waits without a limit. A
+    /// clock that can't be read counts as one that shows the deadline. Refusals are those of [`acquire`](Semaphore::acquire).
     pub fn acquire_timeout<'a, R>(
         &'a self,
         rt: &'a R,

@@ -1,7 +1,7 @@
 //! Calls that count at how many nodes of other visitors they look, and how often they look up a ticket.
 //!
-//! Each is a function that makes the count, in any ledger, and a public one that calls it in a ledger of its own: it
-//! writes `Brand`, and its `Invariants.antt` says in two lines which ledger that is, the one of the blank.
+//! Each is a function that makes the count, in any ledger, and a public function that calls it in a ledger of its own: the
+//! public function writes `Brand`, and its `Invariants.antt` says in two lines which ledger that is, the one of the blank.
 ghost use Rattle.std.specs.Prelude.{◌≡◌, ◌<◌, ◌≤◌, min, length};
 ghost use Rattle.event_queue.specs.Key.{without};
 ghost use Rattle.event_queue.specs.Queue.{order_of};
@@ -10,8 +10,8 @@ use event_queue::{IntoNotification, Key, List, Steps, Woken};
 use std::marker::Brand;
 use std::sync::ledger::{Blank, Ledger};
 
-/// Takes a visitor out of the line, and passes its admission on if it had one. Returns at how many nodes of other
-/// visitors that looked, at three at most however long the line is, and how often it looked up the ticket.
+/// Takes a visitor out of the line, and passes its admission on if it had one. Returns at how many nodes of other visitors the
+/// call looked, at three at most however long the line is, and how often it looked up the ticket.
 pub fn leave_counted(line: &mut List<(), u64>, ticket: Key, called: &mut Woken<u64>) -> (u64, u64)
     ensures few { result.0 ≤ 3 }
     ensures once { result.1 ≤ 1 }
@@ -38,8 +38,8 @@ fn leave_from<L: Ledger>(
     (steps.visits(), steps.looks())
 }
 
-/// Admits the first `n` who wait. Returns how many it admitted, and at how many nodes of other visitors that looked:
-/// at one for each that it admitted.
+/// Admits the first `n` waiting visitors. Returns how many visitors the call admitted, and at how many nodes of other visitors
+/// it looked: at one for each visitor that it admitted.
 pub fn admit_counted(line: &mut List<(), u64>, n: usize, called: &mut Woken<u64>) -> (usize, u64)
     ensures admitted { result.0 ≡ min n (length line.old.waiting) }
     ensures one_each { result.1 ≡ result.0 }

@@ -1,10 +1,10 @@
-//! Notifications with tags: one that never refuses a tag, and one that may.
+//! Notifications with tags: a notification that never refuses a tag, and a notification that may.
 ghost use Rattle.std.specs.Prelude.{◌≡◌, ◌<◌, min, length, IfOk, IfErr};
 ghost use Rattle.event_queue.specs.Queue.{order_of};
 
 use event_queue::{IntoNotification, IntoTagged, List, NotifyError, Woken};
 
-/// Calls the first who waits to this desk. Returns how many it called: 1, or 0 if none waits.
+/// Calls the first waiter to this desk. Returns how many waiters were called: 1, or 0 if nobody waits.
 ///
 /// A clone of a number never fails, so no tag is refused.
 pub fn call_to_desk(line: &mut List<u32, u64>, desk: u32, called: &mut Woken<u64>) -> usize
@@ -14,9 +14,10 @@ pub fn call_to_desk(line: &mut List<u32, u64>, desk: u32, called: &mut Woken<u64
         .unwrap()
 }
 
-/// Calls the first `n` who wait, and gives each a copy of the text. Returns how many it called.
+/// Calls the first `n` waiters, and gives each a copy of the text. Returns how many waiters were called.
 ///
-/// If there is no memory for a copy, those called before keep theirs, and the error says how many they are.
+/// If there is no memory for a copy, the waiters that were called before keep their copies, and the error says how many these
+/// are.
 pub fn announce(
     line: &mut List<String, u64>,
     n: usize,

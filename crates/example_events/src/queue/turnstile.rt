@@ -1,4 +1,4 @@
-//! A line of visitors that are admitted in order, n at a time.
+//! A line of visitors, which are admitted in order, `n` at a time.
 ghost use Rattle.std.specs.Prelude.{◌≡◌, ◌+◌, ◌≤◌, ◌↔◌, min, true, ◌∷◌, ◌++◌, [], Some, length, slice_get, IsTrue, IsFalse, IsSome, IfOk, OnOk, OnErr};
 ghost use Rattle.std.specs.Map.{lookup};
 ghost use Rattle.event_queue.specs.Key.{is_key, without};
@@ -27,7 +27,7 @@ impl Model for Turnstile {
 }
 
 impl Turnstile {
-    /// An empty line with room for `n` visitors: as many join without allocating.
+    /// Makes an empty line with room for `n` visitors: as many join without allocating.
     pub fn with_room(alloc: Global, n: usize) -> Result<Self, AllocError>
         ensures empty { IfOk result (λ turnstile. listeners_of turnstile ≡ 0) }
         ensures room { IfOk result (λ turnstile. n ≤ turnstile.spare) }
@@ -37,9 +37,9 @@ impl Turnstile {
         Ok(Turnstile { line })
     }
 
-    /// An empty line whose first ticket has the serial `first`. The call allocates nothing.
+    /// Makes an empty line whose first ticket has the serial `first`. The call allocates nothing.
     ///
-    /// A line that goes on where the serials of another one ended knows none of its tickets.
+    /// A line that goes on where the serials of another line ended knows no ticket of that line.
     pub fn starting_at(alloc: Global, first: u64) -> Self
         ensures empty { listeners_of result ≡ 0 }
         ensures serial { result.next_serial ≡ first }
@@ -49,7 +49,7 @@ impl Turnstile {
         }
     }
 
-    /// Puts a visitor at the end of the line, and gives its ticket.
+    /// Puts a visitor at the end of the line, and returns the visitor's ticket.
     pub fn join(&mut self, visitor: u64) -> Result<Key, ListenError>
         ensures last { IfOk result (λ ticket.
             self.new.waiting ≡ self.old.waiting ++ (ticket, Some visitor) ∷ []) }
@@ -61,9 +61,9 @@ impl Turnstile {
         Ok(ticket)
     }
 
-    /// Admits the first `n` who wait, or all if they are fewer, and gives their numbers in order.
+    /// Admits the first `n` waiting visitors, or all if fewer wait, and returns their numbers in order.
     ///
-    /// Room for the numbers is made first, so an error admits none.
+    /// Room for the numbers is made first, so a call that fails admits no visitor.
     pub fn admit(&mut self, alloc: Global, n: usize) -> Result<Woken<u64>, AllocError>
         ensures numbers { IfOk result (λ admitted. admitted.tasks ≡ tasks_of n self.old) }
         ensures told { OnOk result (length self.new.told
@@ -79,8 +79,8 @@ impl Turnstile {
         Ok(admitted)
     }
 
-    /// Lets a visitor in that is admitted, which leaves the line, and returns whether it was. Any other that is in the
-    /// line waits on, under this number.
+    /// Lets an admitted visitor in, which then leaves the line, and returns whether the visitor was admitted. Any other visitor
+    /// in the line waits on, under this number.
     pub fn enter(&mut self, ticket: Key, visitor: u64) -> bool
         ensures admitted { IsTrue result ↔ IsSome (lookup (is_key ticket) self.old.told) }
         ensures entered { IsTrue result → self.new ≡ told_leaves ticket self.old }
@@ -91,8 +91,8 @@ impl Turnstile {
         is_admitted
     }
 
-    /// Takes a visitor out of the line. If it was admitted, the first who waits is admitted in its place: the result is
-    /// that one's number.
+    /// Takes a visitor out of the line. If that visitor was admitted, the first waiting visitor is admitted in its place: the
+    /// result is the number of the newly admitted visitor.
     pub fn leave(&mut self, ticket: Key) -> Option<u64>
         ensures instead { result ≡ slice_get (woken_by_removal ticket true self.old) 0 }
         ensures others { order_of self.new ≡ without ticket (order_of self.old) }
@@ -103,7 +103,7 @@ impl Turnstile {
     }
 }
 
-/// Keeps the task that was woken last. That is enough for a removal, which wakes one at most, and needs no memory.
+/// Keeps the task that was woken last. That is enough for a removal, which wakes one task at most, and needs no memory.
 #[derive(Drop)]
 struct LastWoken {
     task: Option<u64>,

@@ -9,21 +9,21 @@ use std::sync::atomic::{AtomicBool, Ordering};
 use std::sync::{Arc, Wait};
 use std::time::Clock;
 
-/// What one thread or task at a time has.
+/// A thing that one thread or task at a time has.
 #[derive(Drop)]
 pub struct Baton {
     is_taken: AtomicBool,
     freed: Event,
 }
 
-/// The baton. Dropping it frees the baton, and then notifies one listener. It owns all that it needs for that.
+/// The baton. Dropping the guard frees the baton, and then notifies one listener. The guard owns all that it needs for that.
 #[must_use = "the baton is free once it is dropped"]
 pub struct OwnedBaton<R: Wait + Drop> {
     baton: Arc<Baton>,
     rt: R,
 }
 
-/// What waits for the baton. A contract sees how many of its attempts failed.
+/// The request of a waiter for the baton. A contract sees how many of the waiter's attempts failed.
 #[derive(Drop)]
 pub struct Take<'a, R> {
     baton: &'a Arc<Baton>,
@@ -40,7 +40,7 @@ impl<'a, R> Model for Take<'a, R> {
 }
 
 impl Baton {
-    /// A baton that nobody has.
+    /// Makes a baton that nobody has.
     pub fn new(id: EventId) -> Self {
         Baton {
             is_taken: AtomicBool::new(false),
@@ -48,7 +48,7 @@ impl Baton {
         }
     }
 
-    /// The baton once it is free: to be awaited, or waited for.
+    /// Returns a wait for the baton, to be awaited or blocked on.
     pub fn take<'a, R>(baton: &'a Arc<Baton>, rt: &'a R, alloc: Global) -> Until<'a, Take<'a, R>, R>
     where
         R: Wait + Clock + Clone + Drop,
@@ -78,7 +78,7 @@ impl Baton {
 }
 
 impl<R> Take<'_, R> {
-    /// How many attempts failed.
+    /// Returns how many attempts failed.
     pub fn failed(&self) -> usize
         ensures { result ≡ self.now }
     {
@@ -98,7 +98,7 @@ impl<R: Wait + Clone + Drop> Attempt for Take<'_, R> {
         let taken = Baton::try_take(self.baton, self.rt).transpose();
         match &taken {
             Some(Ok(_)) => {}
-            // Who is notified and has no memory for a guard lets the next one try.
+            // A notified waiter that has no memory for a guard lets the next waiter try.
             Some(Err(_)) => {
                 self.baton.freed.notify_relaxed(self.rt, 1);
             }

@@ -37,7 +37,7 @@ impl Gate {
     }
 }
 
-/// What waits for the gate.
+/// The request of a waiter for the gate.
 #[derive(Drop)]
 pub struct Pass<'a> {
     gate: &'a Gate,

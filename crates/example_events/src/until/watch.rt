@@ -8,22 +8,22 @@ use std::marker::Model;
 use std::sync::{self, Wait};
 use std::time::Clock;
 
-/// A value that is replaced again and again, and that any number of threads and tasks wait for. They get the latest: one
-/// that comes late misses those between.
+/// A value that is replaced again and again, and that any number of threads and tasks wait for. Each gets the latest value: a
+/// reader that is late misses the values between.
 #[derive(Drop)]
 pub struct Watch<T> {
     latest: sync::Mutex<Version<T>>,
     replaced: Event,
 }
 
-/// A value, and its number: the first has 1, and each later one a greater.
+/// A value, and its number: the first value has 1, and each later value a greater number.
 #[derive(Clone, Copy, Debug, PartialEq, Eq)]
 pub struct Version<T> {
     pub number: u64,
     pub value: T,
 }
 
-/// What waits for a value with a number above the one it has seen, which is what a contract sees of it.
+/// The request of a waiter for a value with a number above the number that it has seen. A contract sees that number.
 #[derive(Drop)]
 pub struct Newer<'a, T, R> {
     watch: &'a Watch<T>,
@@ -40,7 +40,7 @@ impl<'a, T, R> Model for Newer<'a, T, R> {
 }
 
 impl<T: Copy> Watch<T> {
-    /// A watch with its first value.
+    /// Makes a watch with its first value.
     pub fn new(id: EventId, value: T) -> Self {
         Watch {
             latest: sync::Mutex::new(Version { number: 1, value }),
@@ -48,7 +48,7 @@ impl<T: Copy> Watch<T> {
         }
     }
 
-    /// Replaces the value, and then notifies all who wait.
+    /// Replaces the value, and then notifies all waiters.
     pub fn replace<R: Wait>(&self, rt: &R, value: T) {
         let mut latest = self.latest.lock(rt);
         let number = latest.number.saturating_add(1);
@@ -57,7 +57,8 @@ impl<T: Copy> Watch<T> {
         self.replaced.notify_relaxed(rt, usize::MAX);
     }
 
-    /// The latest value, once there is one above that number: to be awaited, or waited for. Of 0 it is there at once.
+    /// Returns a wait for the latest value, once its number is above `seen`, to be awaited or blocked on. Above 0 there is a
+    /// value at once.
     pub fn newer<'a, R>(
         &'a self,
         rt: &'a R,
@@ -93,7 +94,7 @@ impl<T: Copy, R: Wait> Attempt for Newer<'_, T, R> {
 
     ghost use Rattle.std.specs.Prelude.{◌≡◌, ◌<◌};
 
-    // It gives a value with a number above the one seen before, which it has seen then.
+    // An attempt gives a value with a number above the number seen before, and the waiter has seen that value then.
     ghost succeeds = { λ seen version now_seen. (seen < version.number)
         × (now_seen ≡ version.number) };
 

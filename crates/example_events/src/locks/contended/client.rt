@@ -10,10 +10,9 @@ use std::marker::Model;
 use std::sync::Wait;
 use std::time::Clock;
 
-/// One client, by its place. A new one is idle; from then on its place is what
-/// [`Place::after`] says of the one before.
+/// One client, by its place. A new client is idle; from then on its place is what [`Place::after`] says of the place before.
 ///
-/// It is no `Drop`: a client that has a listener has to drop that before it [leaves](Client::leaves).
+/// A client is no `Drop`: a client that has a listener has to drop the listener before it [leaves](Client::leaves).
 pub(super) struct Client {
     place: Place,
 }
@@ -33,8 +32,8 @@ impl Client {
         Client { place: Place::Idle }
     }
 
-    /// Goes on by this news. That its listener was dropped is no such news: a client hears that from
-    /// [`drops`](Client::drops), which drops it.
+    /// Moves the client on by this news. That its listener was dropped is no such news: a client hears that from
+    /// [`drops`](Client::drops), which drops the listener.
     pub(super) fn hears(&mut self, news: News)
         requires comes_here { IsSome (place_after self.old news) }
         requires keeps_its_listener { news ≢ News.Dropped }
@@ -43,7 +42,8 @@ impl Client {
         self.goes_on(news);
     }
 
-    /// Drops its listener, and hears that. If it was notified, that notifies another one.
+    /// Drops the client's listener, and has the client hear that. If the listener was notified, its drop notifies another
+    /// listener.
     pub(super) fn drops<R: Wait + Clock + Clone>(&mut self, listener: EventListener<(), R>)
         requires { IsSome (place_after self.old news.Dropped) }
         ensures { place_after self.old news.Dropped ≡ Some self.new }
@@ -52,7 +52,7 @@ impl Client {
         self.goes_on(News::Dropped);
     }
 
-    /// Is a client no longer. It has no listener.
+    /// Ends the client, which has no listener.
     pub(super) fn leaves(self)
         requires { is_listening self ≡ false }
     {
@@ -78,14 +78,14 @@ pub(crate) struct Trying {
 }
 
 impl Trying {
-    /// A new client, which begins to want something.
+    /// Makes a new client, which begins to want something.
     pub(crate) fn begin() -> Self {
         let mut client = Client::new();
         client.hears(News::Begin);
         Trying { client }
     }
 
-    /// A client that registers, and finds that it was notified. It has no listener any more.
+    /// Makes a client try again that registered and found that it was notified. The client has no listener any more.
     pub(super) fn told(client: Client) -> Self
         requires { client ≡ place.ToRegister }
     {

@@ -1,4 +1,4 @@
-//! What a client has taken, and how it gives that back.
+//! What a client has taken, and how the client gives it back.
 ghost use Rattle.std.specs.Prelude.{◌≡◌};
 ghost use Rattle.event_worlds.specs.declared.world.place.Place.TheVariants as place;
 
@@ -8,12 +8,12 @@ use event_listener::IntoNotification;
 use event_worlds::News;
 use std::sync::Wait;
 
-/// Whom to notify of something that was freed.
+/// How many listeners to notify once something was freed.
 #[derive(Clone, Copy, Debug, PartialEq, Eq)]
 pub enum Owed {
-    /// One of those that wait, unless one is notified already.
+    /// One listener, unless a listener is notified already.
     One,
-    /// This many of those that wait, whichever are notified already.
+    /// This many waiting listeners, whichever are notified already.
     Additional(usize),
 }
 
@@ -21,10 +21,10 @@ pub enum Owed {
 pub trait Taken {
     ghost use Rattle.example_events.specs.declared.locks.contended.held.Owed.{Owed};
 
-    // Whom to notify once it is freed.
+    // How many listeners to notify once the taken thing is freed.
     ghost owed: { Self → Owed };
 
-    /// Frees it. Returns whom to notify of that.
+    /// Frees what was taken. Returns how many listeners to notify of that.
     fn free(self) -> Owed
         ensures { result ≡ owed self };
 }
@@ -32,7 +32,7 @@ pub trait Taken {
 /// What a client has taken. It has to be [freed](Held::free).
 pub struct Held<'a, V> {
     clients: &'a Clients,
-    /// What it has taken.
+    /// What the client has taken.
     pub taken: V,
     holder: Holder,
 }
@@ -56,7 +56,7 @@ impl<'a, V> Held<'a, V> {
         }
     }
 
-    /// Frees what was taken. Whoever is notified of that finds it free.
+    /// Frees what was taken. The notification is sent afterwards, so a client that is notified finds it free.
     pub fn free(self) -> Releasing<'a>
     where
         V: Taken,
@@ -78,8 +78,8 @@ impl<'a, V> Held<'a, V> {
     }
 }
 
-/// A client that has freed what it had, and still owes a notification. Only [`Held::free`] makes one, and to
-/// [notify](Releasing::notify) is the only thing to do with it.
+/// A client that has freed what it had, and still owes a notification. Only [`Held::free`] makes a `Releasing`, and to
+/// [notify](Releasing::notify) is the only thing to do with a `Releasing`.
 pub struct Releasing<'a> {
     clients: &'a Clients,
     owed: Owed,
@@ -88,7 +88,7 @@ pub struct Releasing<'a> {
 }
 
 impl Releasing<'_> {
-    /// Notifies those who wait.
+    /// Notifies the listeners that are owed a notification.
     ///
     /// The call does not allocate. It may wait for the lock of the event.
     pub fn notify<R: Wait>(self, rt: &R) {

@@ -9,15 +9,15 @@ use futures::task::{Poll, Waker};
 use std::sync::Wait;
 use std::time::Clock;
 
-/// A client that found nothing free twice, and listened in between. It is about to register. Dropping it drops its
-/// listener.
+/// A client that found nothing free twice, and listened in between. The client is about to register. Dropping a `Waiting` drops
+/// its listener.
 pub(crate) struct Waiting<R: Wait + Clock + Clone> {
     client: Client,
     listener: EventListener<(), R>,
     ghost registers: { client ≡ place.ToRegister },
 }
 
-/// A client whose task is stored. Dropping it drops its listener.
+/// A client whose task is stored. Dropping a `Parked` drops its listener.
 pub(crate) struct Parked<R: Wait + Clock + Clone> {
     client: Client,
     listener: EventListener<(), R>,
@@ -26,9 +26,9 @@ pub(crate) struct Parked<R: Wait + Clock + Clone> {
 
 /// What a client found when it registered.
 pub(crate) enum Registered<R: Wait + Clock + Clone> {
-    /// It was notified, and tries again.
+    /// The client was notified, and tries again.
     Told(Trying),
-    /// It was not, and its task is stored.
+    /// The client was not notified, and its task is stored.
     Stored(Parked<R>),
 }
 
@@ -82,7 +82,7 @@ impl<R: Wait + Clock + Clone> Waiting<R> {
 }
 
 impl<R: Wait + Clock + Clone> Parked<R> {
-    /// The client is woken, or polled without that.
+    /// Has the client go on that is woken, or polled without being woken.
     pub(crate) fn wakes(self) -> Waiting<R> {
         let Parked {
             mut client,

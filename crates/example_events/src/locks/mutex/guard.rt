@@ -1,11 +1,12 @@
-//! What has the lock.
+//! The guard of a lock.
 use crate::locks::contended::Held;
 use std::ops::{Deref, DerefMut};
 use std::sync::{self, Wait};
 
-/// The lock, and by it the value. Dropping it frees the lock, and then notifies one listener, if none is notified yet.
+/// The lock, and by it the value. Dropping the guard frees the lock, and then notifies one listener, if no listener is notified
+/// yet.
 ///
-/// It keeps the runtime value for its drop, which may wait for the lock of the event.
+/// The guard keeps the runtime value for its drop, which may wait for the lock of the event.
 #[must_use = "the lock is free once its guard is dropped"]
 pub struct MutexGuard<'a, T, R: Wait> {
     rt: &'a R,

@@ -9,8 +9,8 @@ use std::mem;
 use std::sync::{self, Wait};
 use std::time::Clock;
 
-/// A lock that is polled until it gives its guard. Dropping it before that gives up: if it was notified, another client
-/// is.
+/// A lock that is polled until it gives its guard. Dropping it before that gives up: if its client was notified, another client
+/// is notified in its place.
 #[must_use = "nothing is locked before it is polled"]
 #[derive(Drop)]
 pub struct PolledLock<'a, T, R: Wait + Clock + Clone> {
@@ -20,7 +20,7 @@ pub struct PolledLock<'a, T, R: Wait + Clock + Clone> {
     stage: Stage<R>,
 }
 
-// Where its client is.
+// The place of the polled lock's client.
 #[derive(Drop)]
 enum Stage<R: Wait + Clock + Clone> {
     /// Not begun: the lock was not polled yet, or was refused.
@@ -45,8 +45,8 @@ impl<'a, T, R: Wait + Clock + Clone> PolledLock<'a, T, R> {
 
     /// Gives the guard if the lock is free; else the task of the waker is woken once it is worth another poll.
     ///
-    /// A polled lock that gave its guard answers [`MutexError::Finished`] from then on. One that was refused leaves no
-    /// listener, and the next poll begins anew.
+    /// A polled lock that gave its guard answers [`MutexError::Finished`] from then on. A polled lock that was refused leaves
+    /// no listener, and the next poll begins anew.
     ///
     /// The call allocates what listening allocates, and may wait for the lock of the event.
     pub fn poll(&mut self, waker: Waker) -> Result<Poll<MutexGuard<'a, T, R>>, MutexError> {
@@ -64,7 +64,7 @@ impl<'a, T, R: Wait + Clock + Clone> PolledLock<'a, T, R> {
         }
     }
 
-    // Registers, and tries again if it was notified.
+    // Registers the client, and tries again if the client was notified.
     fn register(
         &mut self,
         waiting: Waiting<R>,
@@ -82,7 +82,7 @@ impl<'a, T, R: Wait + Clock + Clone> PolledLock<'a, T, R> {
         Ok(Poll::Pending)
     }
 
-    // A lock that is taken finishes this one.
+    // Tries twice, listening in between. A polled lock that takes the lock has finished.
     fn try_twice(
         &mut self,
         trying: Trying,

@@ -1,4 +1,4 @@
-//! What has permits.
+//! The guard of permits.
 ghost use Rattle.std.specs.Prelude.{◌≡◌, ◌+◌, ◌≤◌, true, false};
 
 use super::Semaphore;
@@ -6,11 +6,11 @@ use crate::locks::contended::{Held, Owed, Taken};
 use std::marker::Model;
 use std::sync::Wait;
 
-/// One permit of a semaphore or more. Dropping it frees all of them in one step, and then notifies as many listeners
+/// One permit of a semaphore or more. Dropping the guard frees all its permits in one step, and then notifies as many listeners
 /// more, whichever are notified already.
 ///
-/// It keeps the runtime value for its drop, which may wait for the lock of the event. A contract sees it as how many
-/// permits it holds.
+/// The guard keeps the runtime value for its drop, which may wait for the lock of the event. A contract sees the guard as the
+/// number of permits that it holds.
 #[must_use = "a permit is free once it is dropped"]
 pub struct Permit<'a, R: Wait> {
     rt: &'a R,
@@ -32,7 +32,7 @@ impl<'a, R: Wait> Permit<'a, R> {
         Permit { rt, held }
     }
 
-    /// Takes one more permit if one is free, and says whether it did.
+    /// Takes one more permit if one is free, and returns whether it did.
     ///
     /// The call neither allocates nor waits.
     pub fn more(&mut self) -> bool
@@ -42,7 +42,7 @@ impl<'a, R: Wait> Permit<'a, R> {
         self.held.taken.take_more()
     }
 
-    /// How many permits it holds: one, and one for each [`more`](Permit::more) that took one.
+    /// Returns how many permits the guard holds: one, and one for each [`more`](Permit::more) that took a permit.
     pub fn held(&self) -> usize
         ensures { result ≡ self.now }
     {
@@ -57,7 +57,7 @@ impl<R: Wait> Drop for Permit<'_, R> {
     }
 }
 
-/// Permits that a client has taken. A contract sees them as how many they are.
+/// Permits that a client has taken. A contract sees the permits as their number.
 pub struct Permits<'a> {
     semaphore: &'a Semaphore,
     count: usize,
@@ -81,7 +81,7 @@ impl<'a> Permits<'a> {
         }
     }
 
-    // Takes one more if one is free.
+    // Takes one more permit if one is free, and returns whether it did.
     fn take_more(&mut self) -> bool
         ensures taken { result ≡ true → self.new ≡ self.old + 1 }
         ensures none { result ≡ false → self.new ≡ self.old }
