@@ -8,7 +8,7 @@ use std::random::RandomSource;
 use std::sync::Wait;
 use std::time::Clock;
 
-/// Adds to the balance once this task has it, and returns what it is then.
+/// Adds to the balance once this task has it, and returns what the balance is then.
 pub fn deposit<R>(rt: &R, alloc: Global, balance: &Mutex<u64>, amount: u64) -> anyhow::Result<u64>
 where
     R: Wait + Clock + RandomSource + AllocGlobal,
@@ -31,7 +31,7 @@ where
     Ok(free)
 }
 
-/// A message, or else the balance, made one higher: whichever is first.
+/// Returns a message, or else the balance, made one higher: whichever this task gets first.
 pub fn first_of<R>(
     rt: &R,
     alloc: Global,
@@ -62,7 +62,7 @@ where
     Ok(*block_on(rt, value.read(rt, alloc))??)
 }
 
-/// Meets itself at a barrier for two, and returns whether just one of both leads.
+/// Waits twice at once at a barrier for two, and returns whether just one of both waits leads.
 pub fn meet<R>(rt: &R, alloc: Global, barrier: &Barrier) -> anyhow::Result<bool>
 where
     R: Wait + Clock + RandomSource + AllocGlobal,

@@ -9,10 +9,10 @@ use std::sync::{Arc, Wait};
 use std::thread::{self, JoinHandle, Threads};
 use std::time::{Clock, Duration};
 
-/// A balance, and those that wait to withdraw from it.
+/// A balance, and the callers that wait to withdraw from it.
 pub type Balance = Monitor<u64, Withdrawal>;
 
-/// Takes an amount off, once there is as much.
+/// A withdrawal: takes an amount off the balance, once there is as much.
 #[derive(Clone, Copy)]
 pub struct Withdrawal {
     pub amount: u64,
@@ -45,7 +45,7 @@ impl Condition<u64> for Withdrawal {
     }
 }
 
-/// Adds to the balance, which holds as much as a `u64` does at most, and returns what it is then.
+/// Adds to the balance, which holds as much as a `u64` does at most, and returns what the balance is then.
 pub fn deposit<R: Wait>(rt: &R, balance: &Balance, amount: u64) -> u64
     ensures { amount ≤ result }
 {
@@ -55,7 +55,7 @@ pub fn deposit<R: Wait>(rt: &R, balance: &Balance, amount: u64) -> u64
     })
 }
 
-/// A thread that adds to the balance in a moment, and returns what it is then.
+/// Starts a thread that adds to the balance in a moment, and returns what the balance is then.
 pub fn deposit_later<R>(
     rt: R,
     balance: &Arc<Balance, Global>,
@@ -99,7 +99,7 @@ pub fn withdraw_within<R: Wait + Clock>(
     withdrawal.wait_timeout(limit)
 }
 
-/// Takes it off once there is as much, as a task does that awaits it.
+/// Takes the amount off once the balance holds it, as a task that awaits the withdrawal.
 pub fn withdraw_as_task<R>(
     rt: &R,
     alloc: Global,

@@ -18,19 +18,19 @@ pub struct Squares {
 }
 
 impl Squares {
-    /// No squares.
+    /// Makes a cache without squares.
     pub fn new(alloc: Global) -> Self {
         Squares {
             known: BTreeMap::new(alloc),
         }
     }
 
-    /// How many squares are kept.
+    /// Returns how many squares are kept.
     pub fn len(&self) -> usize {
         self.known.len()
     }
 
-    /// The square of a number, if it is kept.
+    /// Returns the square of a number, if the square is kept.
     pub fn get(&self, number: u32) -> Option<u64>
         ensures { IfSome result (λ square. square ≡ number * number) }
     {
@@ -47,7 +47,7 @@ impl Squares {
     }
 }
 
-/// The square of a number, out of the cache if it is there.
+/// Returns the square of a number, out of the cache if the square is there.
 pub fn square<R: Wait + Clock>(
     rt: &R,
     alloc: Global,

@@ -20,7 +20,8 @@ pub fn port<R: Wait + Clock>(
     Ok(*port)
 }
 
-/// Sets the port, if nobody has, and looks at it as anybody does. Whoever looks, and when, has the one that was set.
+/// Sets the port, if nobody has set it, and looks at it as any caller does. Each caller, at any time, sees the port that was
+/// set.
 pub fn set_port<R: Wait + Clock>(
     rt: &R,
     alloc: Global,
@@ -37,7 +38,7 @@ pub fn set_port<R: Wait + Clock>(
     Some(*cell.value(&seen))
 }
 
-/// The name. A task makes it if nobody has, and others wait meanwhile.
+/// Returns the name. A task makes the name if nobody has made it, and other callers wait meanwhile.
 pub fn make_name<R>(
     rt: &R,
     alloc: Global,

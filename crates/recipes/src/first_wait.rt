@@ -1,12 +1,12 @@
-//! One thread waits for a notification of another.
+//! A thread that waits for a notification of another thread.
 use event_listener::{Event, EventIds, IntoTagged, Listener};
 use std::alloc::Global;
 use std::sync::Wait;
 use std::thread::{self, Threads};
 use std::time::Clock;
 
-/// Waits for the tag 7, with which another thread notifies. The listener is made before that thread starts, so the
-/// notification finds it.
+/// Waits for the tag 7, with which another thread notifies. The listener is made before that thread starts, so the notification
+/// finds the listener.
 pub fn first_wait<R>(rt: R, alloc: Global) -> anyhow::Result<u32>
 where
     R: Threads + Wait + Clock + Copy + Send + 'static,

@@ -1,4 +1,4 @@
-//! Two threads at a channel, with clauses of what one of them received and the other sent.
+//! Two threads at a channel, with clauses of what one thread received and the other sent.
 ghost use Rattle.std.specs.Prelude.{◌≡◌, ◌⊎◌, IfErr, IfOk};
 ghost use Rattle.event_history.specs.Hands.{IsOf, SameTable};
 ghost use Rattle.recipes.specs.Hands.{SawAllDue, SawOut, SawSent, Sends};
@@ -10,17 +10,17 @@ use std::sync::Wait;
 use std::thread::{self, Threads};
 use std::time::Clock;
 
-/// What became of a number that one thread sends, and what another receives after that.
+/// What became of a number that one thread sends, and what another thread receives after that.
 #[derive(Drop)]
 pub struct Exchange {
     pub sent: Result<(), SendError<u64>>,
     pub received: Result<u64, TryRecvError>,
 }
 
-/// Has another thread send a number, and then receives one. What is received was sent. And no message is lost: where the
-/// number was sent and none is received, it has gone out before, or each that waited was due to a receive that was notified,
-/// while one starves. The call may wait for the other thread, and for the lock of the channel. Without a limit the channel may
-/// allocate.
+/// Has another thread send a number, and then receives one. What is received was sent. And no message is lost: where the number
+/// was sent and no message is received, the number has gone out before, or each message that waited was due to a notified
+/// receive, while a receive starved. The call may wait for the other thread, and for the lock of the channel. Without a limit
+/// the channel may allocate.
 pub fn send_then_receive<R>(
     rt: &R,
     sender: &Sender<u64, R>,

@@ -14,7 +14,7 @@ pub struct Load {
 }
 
 impl Load {
-    /// No job has run.
+    /// Makes the counts before any job has run.
     pub fn new() -> Self {
         Load {
             running: AtomicUsize::new(0),
@@ -22,12 +22,12 @@ impl Load {
         }
     }
 
-    /// How many jobs have run at once at most.
+    /// Returns how many jobs have run at once at most.
     pub fn most(&self) -> usize {
         self.most.load(Ordering::SeqCst)
     }
 
-    // Is one more that runs, for a moment.
+    // Runs one more job, for a moment, and counts it.
     fn run<R: Clock>(&self, rt: &R) {
         let running = self.running.fetch_add(1, Ordering::SeqCst).wrapping_add(1);
         self.most.fetch_max(running, Ordering::SeqCst);
@@ -36,7 +36,7 @@ impl Load {
     }
 }
 
-/// Starts a job in a thread of its own, once a permit is free. The permit goes with it, and comes back when it ends.
+/// Starts a job in a thread of its own, once a permit is free. The thread has the permit, and gives it back when the job ends.
 pub fn start<R, J, T>(
     rt: R,
     alloc: Global,

@@ -108,7 +108,7 @@ where
     Ok(())
 }
 
-// A balance that is waited for. What it lacks comes from another thread.
+// A withdrawal that waits for the balance. Another thread adds what the balance lacks.
 fn run_balance<R>(rt: R) -> anyhow::Result<()>
 where
     R: Threads + Wait + Clock + RandomSource + AllocGlobal + Print + Copy + Send + Sync + 'static,
@@ -149,7 +149,7 @@ where
     Ok(())
 }
 
-// The second permit comes from another thread.
+// Another thread adds the second permit.
 fn run_joins<R>(rt: R) -> anyhow::Result<()>
 where
     R: Threads + Wait + Clock + RandomSource + AllocGlobal + Print + Copy + Send + Sync + 'static,

@@ -19,7 +19,7 @@ pub struct Answer<R: Wait + Clock + Clone> {
 }
 
 impl<R: Wait + Clock + Clone> Answer<R> {
-    /// Blocks the thread until the job is done. `Closed` says that a worker gave it up, or is gone.
+    /// Blocks the thread until the job is done. `Closed` says that a worker gave the job up, or is gone.
     pub fn wait(self) -> Result<u64, RecvError> {
         self.receiver.recv_blocking()
     }
@@ -67,7 +67,7 @@ where
         Ok(Answer { receiver })
     }
 
-    /// Takes in no more jobs, and returns once all are done.
+    /// Takes in no more jobs, and returns once all jobs are done.
     pub fn finish(self, rt: R) -> Result<(), WaitError> {
         let Pool { jobs, workers } = self;
         drop(jobs);

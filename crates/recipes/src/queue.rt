@@ -9,7 +9,7 @@ const WORKERS: usize = 4;
 
 const NUMBERS: u64 = 1000;
 
-// Sends all numbers. It owns the only sender, so the channel is closed when it ends, for whatever reason.
+// Sends all numbers. The call owns the only sender, so the channel is closed when the call ends, for whatever reason.
 fn send_all<R: Wait + Clock + Clone>(numbers: Sender<u64, R>) -> Result<(), SendError<u64>> {
     for number in 1..=NUMBERS {
         numbers.send_blocking(number)?;
@@ -33,10 +33,10 @@ fn add_squares<R: Wait + Clock + Clone>(
     unreachable!()
 }
 
-// Workers, each of which gives the sum of the squares that it computed.
+// Workers, each of which returns the sum of the squares that it computed.
 type Workers = Vec<JoinHandle<Result<u64, RecvError>>>;
 
-// Each worker has a receiver of its own.
+// Starts the workers, each with a receiver of its own.
 fn start_workers<R>(rt: R, alloc: Global, receiver: Receiver<u64, R>) -> anyhow::Result<Workers>
 where
     R: Threads + Wait + Clock + Copy + Send + Sync + 'static,
@@ -49,7 +49,7 @@ where
     Ok(workers)
 }
 
-// Returns once each worker has ended.
+// Returns the sum of all workers, once each has ended.
 fn join_workers<R: Threads>(rt: &R, workers: Workers) -> Result<u64, RecvError> {
     let mut sum = Ok(0u64);
     for worker in workers {
@@ -59,7 +59,7 @@ fn join_workers<R: Threads>(rt: &R, workers: Workers) -> Result<u64, RecvError> 
     sum
 }
 
-/// The sum of the squares of all numbers, which workers share, and of which a few wait at a time.
+/// Returns the sum of the squares of all numbers. Workers share the numbers, of which a few wait at a time.
 pub fn sum_of_squares<R>(rt: R, alloc: Global) -> anyhow::Result<u64>
 where
     R: Threads + Wait + Clock + Copy + Send + Sync + 'static,

@@ -7,7 +7,7 @@ use std::random::RandomSource;
 use std::sync::Wait;
 use std::time::Clock;
 
-// The next number of either channel, an urgent one first.
+// Returns the next number of either channel, an urgent number first.
 fn next_of_two<R>(
     rt: &R,
     urgent: &Receiver<u64, R>,
@@ -21,8 +21,8 @@ where
     Ok(number?)
 }
 
-/// Sends two numbers into a channel, and then an urgent one into another. Returns all in the order in which they are
-/// received.
+/// Sends two numbers into a channel, and then an urgent number into another channel. Returns all numbers in the order in which
+/// they are received.
 pub fn urgent_first<R>(rt: &R) -> anyhow::Result<[u64; 3]>
 where
     R: Wait + Clock + Clone + RandomSource + AllocGlobal,
