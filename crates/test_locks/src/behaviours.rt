@@ -47,7 +47,7 @@ fn a_mutex_shows_whether_somebody_has_its_value(rt: HostRuntime) {
     check(&rt, "given back by that", mutex.is_locked(), false);
 }
 
-// Whether it is locked, and whether it is for a writer.
+// Returns whether the lock is taken, and whether a writer has it.
 fn is_taken(lock: &RwLock<u64>) -> (bool, bool) {
     (lock.is_locked(), lock.is_write_locked())
 }
@@ -81,14 +81,14 @@ fn a_read_write_lock_shows_who_has_its_value(rt: HostRuntime) {
     check(&rt, "given back", is_taken(&lock), (false, false));
 }
 
-// Whether a task has it at its first poll. Then it lets it go at once.
+// Returns whether a task gets the guard at its first poll. The guard is dropped at once.
 fn has_it_at_once<R: Runtime, W: Waits>(rt: &R, waits: W) -> bool {
     let mut waits = waits;
     waits.can_be_polled();
     new_task(rt).poll(&mut waits).is_ready()
 }
 
-// Beside a reader a writer waits, and gives up here: then a reader waits for nobody.
+// Beside a reader a writer waits, and gives up here: then another reader waits for nobody.
 #[test]
 fn whoever_finds_a_read_write_lock_free_has_it_at_once(rt: HostRuntime) {
     let lock = Arc::new(rt.alloc(), new_lock(&rt, 7u64)).expect(&rt, "memory");
@@ -115,7 +115,7 @@ fn a_semaphore_has_no_more_permits_than_it_can_count(rt: HostRuntime) {
     check(&rt, "free", semaphore.available(), Semaphore::MAX_PERMITS);
 }
 
-// Why so many are not given at once.
+// Returns why so many permits are not given at once, if they are not.
 fn refused<R: Runtime>(rt: &R, semaphore: &Semaphore, n: usize) -> Option<TryAcquireError> {
     semaphore.try_acquire_many(rt, n).err()
 }
@@ -178,7 +178,7 @@ fn no_more_permits_are_forgotten_than_are_free(rt: HostRuntime) {
     check(&rt, "free", semaphore.available(), 1);
 }
 
-// What comes back or is added is counted still.
+// Permits that are given back or added are counted still.
 #[test]
 fn a_closed_semaphore_gives_nothing(rt: HostRuntime) {
     let semaphore = new_semaphore(&rt, 3);
@@ -222,7 +222,7 @@ fn a_wait_for_a_closed_semaphore_ends_at_once(rt: HostRuntime) {
     check(&rt, "another", other.err(), Some(TryAcquireError::Closed));
 }
 
-// What this shows of itself is this text.
+// Checks that the debug text of this value is the expected text.
 fn shows<V: Debug, R: Runtime>(rt: &R, value: &V, expected: &str) {
     let shown = format!(in rt.alloc(); "{value:?}").expect(rt, "a text");
     check(rt, "shown", shown.as_str(), expected);

@@ -1,4 +1,4 @@
-//! A semaphore that closes ends each kind of wait, of tasks and of threads, and gives nothing any more.
+//! A semaphore that closes ends each kind of wait, of tasks and of threads, and gives no permit any more.
 use crate::support::{check, new_semaphore};
 use crate::tasks::Polled;
 use event_locks::{AcquireError, Semaphore, TryAcquireError};
@@ -11,7 +11,7 @@ use test_support::{Runtime, deadline_after};
 
 const CLOSED: Option<AcquireError> = Some(AcquireError::Closed);
 
-// Why this poll gives it no permit.
+// Returns the error by which this poll ends the wait, if it does.
 fn refused<W: Waits<Refusal = AcquireError>>(polled: &mut Polled<W>) -> Option<AcquireError> {
     match polled.poll() {
         Poll::Ready(answer) => answer.err(),
@@ -19,7 +19,7 @@ fn refused<W: Waits<Refusal = AcquireError>>(polled: &mut Polled<W>) -> Option<A
     }
 }
 
-// One is notified, and two wait. A thread goes on in the place of the third, at its limit.
+// One task is notified, and two wait. A thread goes on in the place of the third task, at its limit.
 #[test]
 fn tasks_that_wait_are_woken_by_a_close(rt: HostRuntime) {
     let semaphore = new_semaphore(&rt, 0);
@@ -41,7 +41,7 @@ fn tasks_that_wait_are_woken_by_a_close(rt: HostRuntime) {
     check(&rt, "free, and nobody waits", counts, [1, 0, 0, 0]);
 }
 
-// It lost twice, and newcomers are shut out for it: none takes many, or forgets some.
+// A waiter lost twice, and newcomers are shut out for it: no newcomer takes many permits, or forgets some.
 #[test]
 fn one_that_starves_is_served_until_a_close(rt: HostRuntime) {
     let semaphore = new_semaphore(&rt, 2);
@@ -65,10 +65,10 @@ fn one_that_starves_is_served_until_a_close(rt: HostRuntime) {
     check(&rt, "nobody waits", numbers(counts), [2, 0, 0, 0]);
 }
 
-// In how many ways a thread waits.
+// The number of ways in which a thread waits.
 const WAYS: u32 = 4;
 
-// Why a thread that waits in this way has no permit.
+// Waits in this way, and returns why the thread has no permit, if it has none.
 fn waits<R: Runtime>(rt: &R, semaphore: &Semaphore, way: u32) -> Option<AcquireError> {
     let acquire = semaphore.acquire(rt, rt.alloc());
     let long = Duration::from_secs(20);
@@ -83,7 +83,7 @@ fn waits<R: Runtime>(rt: &R, semaphore: &Semaphore, way: u32) -> Option<AcquireE
     }
 }
 
-// Closes it once one waits.
+// Closes the semaphore once a thread waits.
 fn closes<R: Runtime>(rt: &R, semaphore: &Semaphore) {
     for _ in rt.forever() {
         if semaphore.counts(rt).waiting > 0 {

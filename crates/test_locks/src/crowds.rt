@@ -1,4 +1,5 @@
-//! More that wait than a thread wakes before others may have the queues: none is woken while it has them out, and all are woken.
+//! More waiters than a thread wakes before other threads may have the queues: no waiter is woken while the thread has the
+//! queues out, and all are woken.
 ghost use Rattle.event_word.specs.Rules.{Rules};
 
 use crate::support::{check, new_lock, new_semaphore, new_task};
@@ -17,7 +18,8 @@ use test_support::Runtime;
 
 const CROWD: usize = 20;
 
-/// A state for which a crowd waits, of which all are notified at once. Whenever somebody is to be notified, it notes how many are woken.
+/// A state for which a crowd of tasks waits, all of which are notified at once. Whenever a task is to be notified, the state
+/// notes how many tasks are woken.
 #[derive(Drop)]
 struct Crowd<'a> {
     waiting: Vec<Task, Global>,
@@ -59,7 +61,7 @@ impl Kept for Crowd<'_> {
     ghost promises = { λ _ _ _. tt };
 }
 
-// It is out three times, with none, eight and sixteen woken.
+// The state is out three times, with none, eight and sixteen tasks woken.
 #[test]
 fn a_few_are_woken_at_a_time(rt: HostRuntime) {
     let (alloc, source, noted) = (rt.alloc(), WakerSource::new(), AtomicU64::new(0));
@@ -92,7 +94,7 @@ fn a_few_are_woken_at_a_time(rt: HostRuntime) {
     check(&rt, "woken at last", woken, CROWD);
 }
 
-// All are woken, and each is granted.
+// Checks that all waiters are woken, and that each is granted what it waits for.
 fn are_granted<R: Runtime, W: Waits>(rt: &R, crowd: Vec<Polled<W>>) {
     let mut crowd = crowd;
     let woken = crowd.iter().filter(|one| one.is_woken()).count();
@@ -116,7 +118,7 @@ fn a_writer_that_goes_wakes_a_crowd(rt: HostRuntime) {
     are_granted(&rt, crowd);
 }
 
-// They come while one has the permits, and those are given back at once; or it is closed.
+// Has a crowd wait at a semaphore without free permits. Then all permits are added at once, or the semaphore is closed.
 fn crowd_at_a_semaphore<R: Runtime + Clone + Drop>(rt: &R, closes: bool)
 where
     R: Copy,

@@ -1,4 +1,4 @@
-//! Waits that end at their limit. Who gives up there stands in no queue, and what it was handed is not lost.
+//! Waits that end at their limit. A waiter that gives up there is in no queue, and what it was handed is not lost.
 use crate::support::{check, new_semaphore};
 use crate::tasks::Polled;
 use event_locks::Semaphore;
@@ -10,7 +10,7 @@ use std::time::{Clock, Duration, Instant};
 use test_kinds::{Case, Kind, Waits, each};
 use test_support::{Change, Changed, NoClock, Runtime, deadline_after};
 
-// One waits for some time, and one until a moment, in vain. Then another one comes first.
+// One caller waits for some time, and another until a moment, both in vain. Then a later waiter is the first in the queue.
 #[derive(Drop)]
 struct InVain;
 
@@ -42,7 +42,7 @@ fn each_wait_ends_at_its_limit(rt: HostRuntime) {
     each(&rt, &rt, &InVain).expect(&rt, "memory");
 }
 
-// Whether one that waits so long for a permit is given one.
+// Returns whether a thread that waits so long for a permit is given one.
 fn is_given<R: Runtime, C: Wait + Clock>(
     rt: &R,
     clock: &C,
@@ -64,19 +64,19 @@ fn a_clock_that_cannot_be_read_ends_a_wait(rt: HostRuntime) {
     check(rt, "whether it is granted", given, false);
 }
 
-// A clock that goes on by a millisecond at each reading, whatever time that takes. At the third reading and later, one that waits
-// has stored its task, and is to park.
+// A clock that goes on by a millisecond at each reading, whatever time that takes. At the third reading and later, the waiting
+// thread has stored its task, and is to park.
 #[derive(Drop)]
 struct Steps<'a, R> {
     rt: &'a R,
     semaphore: &'a Semaphore,
-    // At which readings a permit is added, and at which it is gone again once whoever waits is woken.
+    // At which readings a permit is added, and at which the permit is taken again once the waiting thread is woken.
     added: [u64; 2],
     taken: u64,
     reads: Cell<u64>,
 }
 
-// No such reading.
+// Stands for no reading.
 const NEVER: u64 = u64::MAX;
 
 impl<R: Runtime> Change for Steps<'_, R> {
@@ -96,7 +96,8 @@ impl<R: Runtime> Change for Steps<'_, R> {
     }
 }
 
-// One that waits so long is given a permit or not, and has looked at the clock so often: so much later it ended.
+// Checks whether a thread that waits so long is given a permit, and how often it looked at the clock: after so many
+// milliseconds the wait ended.
 fn ends<R: Runtime>(rt: &R, limit: u64, added: [u64; 2], taken: u64, expected: (bool, u64)) {
     let semaphore = &new_semaphore(rt, 0);
     let steps = Steps {
@@ -115,14 +116,14 @@ fn ends<R: Runtime>(rt: &R, limit: u64, added: [u64; 2], taken: u64, expected: (
 
 #[test]
 fn a_timed_wait_goes_on_until_its_limit_or_a_permit(rt: HostRuntime) {
-    // No time has passed already, by any clock.
+    // A limit of zero has passed already, by any clock.
     ends(&rt, 0, [NEVER; 2], NEVER, (false, 0));
-    // It begins at 0, enters the queue at 1, parks at 2 and at 3, though it wakes each time, and is over at 4.
+    // The wait begins at 0, joins the queue at 1, parks at 2 and at 3, though the thread wakes each time, and is over at 4.
     ends(&rt, 4, [NEVER; 2], NEVER, (false, 5));
-    // What is added at the limit is in time, before it enters the queue and in it.
+    // A permit that is added at the limit is in time, both before the thread joins the queue and in the queue.
     ends(&rt, 1, [1, NEVER], NEVER, (true, 2));
     ends(&rt, 2, [2, NEVER], NEVER, (true, 3));
-    // One who comes first takes the permit that it is woken for. It gets a later one.
+    // A newcomer is faster and takes the permit for which the thread is woken. The thread gets a later permit.
     ends(&rt, 9, [2, 3], 2, (true, 4));
 }
 
@@ -140,7 +141,7 @@ fn a_timed_wait_parks_until_its_limit(rt: HostRuntime) {
         let given = is_given(&rt, &clock, &semaphore, limit);
         let took = began.elapsed(&rt).expect(&rt, "the time");
         check(&rt, "whether it is granted", given, false);
-        // Who does not park looks all the time.
+        // A thread that does not park looks all the time.
         check(&rt, "whether it parked", reads.get() < 10, true);
         if took < Duration::from_millis(75) {
             return;

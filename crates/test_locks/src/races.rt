@@ -1,4 +1,4 @@
-//! Races of two threads: one lets go while the other one goes into the queue, at each moment of its way there.
+//! Races of two threads: one gives the lock back while the other joins the queue, at each moment of its way there.
 use crate::support::{check, new_lock, new_mutex, new_semaphore, new_task, wait_until};
 use event_wait::pause;
 use futures::test::MockTask;
@@ -8,8 +8,8 @@ use std::time::{Duration, Instant};
 use test_kinds::{Kind, Of, Read, Waits, Write};
 use test_support::Runtime;
 
-// The last round that one thread has opened, the last one of the other thread that was granted, and whether that one had to
-// wait.
+// The last round that one thread has opened, the last round in which the other thread was granted the lock, and whether the
+// other thread had to wait.
 #[derive(Drop)]
 struct Rounds {
     opened: AtomicU32,
@@ -20,10 +20,10 @@ struct Rounds {
 // No more rounds are opened.
 const OVER: u32 = u32::MAX;
 
-// More pauses than a thread makes before it goes into the queue.
+// More pauses than a thread makes before it joins the queue.
 const PAUSES: u32 = 1024;
 
-// In each round one waits: in every eighth a thread, and else a task.
+// Waits once in each round: in every eighth round as a thread, and else as a task.
 fn waits<R: Runtime, K: Kind>(rt: &R, kind: &K, rounds: &Rounds) {
     let task = new_task(rt);
     for round in 1..OVER {
@@ -42,7 +42,7 @@ fn waits<R: Runtime, K: Kind>(rt: &R, kind: &K, rounds: &Rounds) {
     }
 }
 
-// A task polls until it is granted. Returns whether it had to wait.
+// Polls as a task until the wait is granted. Returns whether the task had to wait.
 fn polls<R: Runtime, W: Waits>(rt: &R, waits: W, task: &MockTask) -> bool {
     let mut waits = waits;
     waits.can_be_polled();
@@ -55,9 +55,9 @@ fn polls<R: Runtime, W: Waits>(rt: &R, waits: W, task: &MockTask) -> bool {
     true
 }
 
-// In each round the other one has it, and gives it back: to a task a little earlier than in the last round, if that had to wait
-// there, and else a little later, so that both come at about the same moment. How much that is doubles as long as the answer
-// stays, and else is a quarter.
+// Takes and gives back the lock in each round. A task gets it a little earlier than in the last round, if the task had to wait
+// there, and else a little later, so that both threads act at about the same moment. The step doubles as long as the answer
+// stays the same, and else falls to a quarter.
 fn gives_back<R: Runtime, K: Kind>(rt: &R, kind: &K, rounds: &Rounds) {
     let began = Instant::now(rt).expect(rt, "the time");
     let (mut pauses, mut step, mut had_waited) = (0u32, 1u32, false);

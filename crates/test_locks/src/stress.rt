@@ -9,7 +9,7 @@ use std::time::{Duration, Instant};
 use test_kinds::{Waits, numbers};
 use test_support::Runtime;
 
-// What is given in this way, or `None` if it gave up.
+// Returns what is granted to a waiter in this way, or `None` if the waiter gave up.
 fn in_some_way<R: Runtime, W: Waits>(rt: &R, way: usize, waits: W) -> Option<W::Granted> {
     let mut waits = waits;
     waits.can_be_polled();
@@ -37,7 +37,7 @@ struct Locks {
     cell: OnceCell<usize>,
 }
 
-// Each lock has functions of its own: one that names several needs much memory to prove.
+// Each lock has functions of its own: a function that names several locks needs much memory to prove.
 fn shared<L: Drop, R: Runtime>(rt: &R, lock: L) -> Arc<L, Global> {
     Arc::new(rt.alloc(), lock).expect(rt, "memory")
 }

@@ -9,8 +9,8 @@ use std::random::RandomSource;
 use std::sync::Wait;
 use std::thread;
 
-/// The answer is the expected one. Where it is not, the message has both, and what was asked. The assertion stands here
-/// once, in a generic function, and is proved once.
+/// Checks that the answer is the expected answer. Where it is not, the message has both, and what was asked. The assertion
+/// stands here once, in a generic function, and is proved once.
 pub fn check<A, V, R>(rt: &R, asked: A, answer: V, expected: V)
 where
     A: Display + Drop,
@@ -20,27 +20,27 @@ where
     assert_eq!(rt; answer, expected, "{asked}");
 }
 
-/// A semaphore with so many permits.
+/// Makes a semaphore with so many permits.
 pub fn new_semaphore<R: AllocGlobal>(rt: &R, permits: usize) -> Semaphore {
     Semaphore::new(rt.alloc(), permits)
 }
 
-/// A mutex round this value.
+/// Makes a mutex round this value.
 pub fn new_mutex<T: Drop, R: AllocGlobal>(rt: &R, value: T) -> Mutex<T> {
     Mutex::new(rt.alloc(), value)
 }
 
-/// A read-write lock round this value.
+/// Makes a read-write lock round this value.
 pub fn new_lock<T, R: AllocGlobal>(rt: &R, value: T) -> RwLock<T> {
     RwLock::new(rt.alloc(), value)
 }
 
-/// A task that is not woken.
+/// Makes a task that is not woken.
 pub fn new_task<R: Abort + RandomSource + AllocGlobal>(rt: &R) -> MockTask {
     MockTask::new(rt).expect(rt, "a task")
 }
 
-/// The sum of what the threads counted.
+/// Returns the sum of what the threads counted.
 pub fn sum<R: Abort>(rt: &R, counted: Result<Vec<usize>, AllocError>) -> usize {
     let mut all = 0usize;
     for counted in counted.expect(rt, "the threads").iter() {
@@ -49,7 +49,7 @@ pub fn sum<R: Abort>(rt: &R, counted: Result<Vec<usize>, AllocError>) -> usize {
     all
 }
 
-/// Returns once this is so. It looks often at first: threads that race are to run at once.
+/// Returns once this is so. The call looks often at first: threads that race are to run at once.
 pub fn wait_until<R: Wait, F: Fn() -> bool>(rt: &R, is_so: F)
     requires { F.IsAlwaysCallable is_so }
 {

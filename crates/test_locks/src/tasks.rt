@@ -1,5 +1,5 @@
-//! Tasks that wait in each way, and are woken once they are let in. One that gives up hands on what it was handed, and lets in
-//! who waited for it alone.
+//! Tasks that wait in each way, and are woken once they are let in. A task that gives up hands on what it was handed, and lets
+//! in the waiters that waited for it alone.
 use crate::support::{check, new_lock, new_semaphore, new_task};
 use event_locks::{
     Barrier, LockError, Mutex, OnceCell, PollError, RwLock, RwLockCounts, RwLockWriteGuardArc,
@@ -21,7 +21,7 @@ pub struct Polled<W> {
 }
 
 impl<W: Waits> Polled<W> {
-    /// Polls this wait, which is not granted at once, and wakes nobody.
+    /// Polls this wait, and checks that it is not granted at once, and that its task is not woken.
     pub fn new<R: Runtime>(rt: &R, waits: W) -> Self {
         let task = new_task(rt);
         let mut polled = Polled { task, waits };
@@ -29,41 +29,41 @@ impl<W: Waits> Polled<W> {
         polled
     }
 
-    /// Whether its task was woken since its last poll.
+    /// Returns whether the task of the wait was woken since its last poll.
     pub fn is_woken(&self) -> bool {
         self.task.is_woken()
     }
 
-    /// What it answers at this poll.
+    /// Polls the wait, and returns the answer.
     pub fn poll(&mut self) -> Poll<Result<W::Granted, W::Refusal>> {
         self.waits.can_be_polled();
         self.task.poll(&mut self.waits)
     }
 
-    /// Whether it is granted at this poll. Then it lets it go at once.
+    /// Returns whether the wait is granted at this poll. What was granted is dropped at once.
     pub fn is_ready(&mut self) -> bool {
         self.poll().is_ready()
     }
 
-    /// Polls in vain. That wakes nobody: its task is registered.
+    /// Polls in vain. The poll does not wake the task: the task is registered.
     pub fn waits_on<R: Runtime>(&mut self, rt: &R) {
         check(rt, "whether it is granted", self.is_ready(), false);
         check(rt, "whether it is woken", self.is_woken(), false);
     }
 
-    /// It was woken, and it is granted at the next poll.
+    /// Checks that the task was woken, and that the wait is granted at the next poll.
     pub fn is_granted<R: Runtime>(&mut self, rt: &R) {
         check(rt, "whether it is woken", self.is_woken(), true);
         check(rt, "whether it is granted", self.is_ready(), true);
     }
 
-    /// The wait, which nobody polls any more.
+    /// Returns the wait, which no task polls any more.
     pub fn into_waits(self) -> W {
         let Polled { task: _, waits } = self;
         waits
     }
 
-    /// Whether it answers at this poll that it is over.
+    /// Returns whether the wait answers at this poll that it is over.
     pub fn is_over(&mut self) -> bool {
         match self.poll() {
             Poll::Ready(Err(refusal)) => refusal.reason() == Some(LockError::Finished),
@@ -80,7 +80,7 @@ impl<W: Waits> Polled<W> {
         task
     }
 
-    /// It is let in once this is dropped.
+    /// Checks that the task is let in once `held` is dropped, and not before.
     pub fn let_in<R: Runtime, G: Drop>(self, rt: &R, held: G) {
         let mut polled = self;
         check(rt, "whether it is woken", polled.is_woken(), false);
@@ -89,9 +89,9 @@ impl<W: Waits> Polled<W> {
     }
 }
 
-// Four tasks wait, and all are woken once they are let in, or one after the other. One that is dropped then passes it on; those
-// that gave up before count for nothing. A poll before changes nothing, and threads go on in the place of two tasks, without a
-// limit and at one that has come. One that was granted is over.
+// Four tasks wait, and all are woken once they are let in, or one after the other. A notified task that is dropped passes its
+// notification on; waits that gave up before count for nothing. A poll before changes nothing, and threads go on in the places
+// of two tasks, without a limit and at a limit that has passed. A wait that was granted is over.
 #[derive(Drop)]
 struct AllAreWoken;
 
@@ -126,7 +126,7 @@ impl<R: Runtime> Case<R> for AllAreWoken {
         check(rt, "whether it is over", last.is_over(), true);
         check(rt, "who gave up", gave_up.is_woken(), false);
         if matches!(kind.sharing(), Sharing::One | Sharing::All) {
-            // Nobody is left in the queue to whom it could go in the place of this one.
+            // No waiter is left in the queue that could be notified in the place of this one.
             let held = kind.hold();
             Polled::new(rt, kind.waits().expect(rt, "a share")).let_in(rt, held);
         }
@@ -138,7 +138,7 @@ fn all_tasks_are_woken_in_their_turn(rt: HostRuntime) {
     each(&rt, &rt, &AllAreWoken).expect(&rt, "memory");
 }
 
-// The value of a cell is at hand: who asks for it waits in no queue.
+// The value of a cell is at hand: a caller that asks for it waits in no queue.
 #[test]
 fn one_that_gave_a_value_at_hand_is_over(rt: HostRuntime) {
     let (cell, task) = (OnceCell::new(rt.alloc()), new_task(&rt));
@@ -159,7 +159,8 @@ fn one_that_gave_a_value_at_hand_is_over(rt: HostRuntime) {
     check(&rt, "whether both are over", [claimed, seen], [true, true]);
 }
 
-// The first is notified of a permit. The second, which polls before it, is not, and leaves no place behind.
+// The first task is notified of a permit. The second task, which polls before the first, is not notified, and leaves no place
+// behind.
 #[test]
 fn one_that_is_not_notified_waits_at_its_place(rt: HostRuntime) {
     let semaphore = new_semaphore(&rt, 1);
@@ -176,8 +177,8 @@ fn one_that_is_not_notified_waits_at_its_place(rt: HostRuntime) {
     check(&rt, "free, and nobody waits", counts, [1, 0, 0, 0]);
 }
 
-// Whoever tries for a permit and is given none, or too late, keeps no share. One that is forgotten keeps no share either, and
-// its permit is gone.
+// A caller that tries for a permit and is given none, or none in time, keeps no share. A guard that is forgotten keeps no share
+// either, and its permit is gone.
 #[test]
 fn permits_that_share_their_semaphore_are_given_up(rt: HostRuntime) {
     let semaphore = Arc::new(rt.alloc(), new_semaphore(&rt, 1)).expect(&rt, "memory");
@@ -222,8 +223,8 @@ fn a_task_that_comes_last_wakes_all(rt: HostRuntime) {
     second.is_granted(&rt);
 }
 
-// Where nobody waits, a writer that reads writes again. One that reads lets in all readers that wait; beside one of them it does
-// not write again, nor alone while a writer waits, which comes in after it.
+// Where nobody waits, a writer that became a reader becomes a writer again. A writer that becomes a reader lets in all waiting
+// readers; it does not become a writer again beside one of them, nor alone while a writer waits, which is let in after it.
 macro_rules! reads_and_writes {
     ($rt:expr, $lock:expr, $writer:expr) => {{
         let writer = $writer.downgrade().try_upgrade();
@@ -256,12 +257,13 @@ fn an_owned_guard_downgrades_and_upgrades(rt: HostRuntime) {
     reads_and_writes!(&rt, lock, writer);
 }
 
-// Writes this, and lets the guard go.
+// Writes this value, and drops the guard.
 fn write_by<R: Runtime>(mut writer: RwLockWriteGuardArc<u64, R>, value: u64) {
     *writer = value;
 }
 
-// A guard that shares its lock writes in another thread, and is dropped there, which lets in a reader that shares it too.
+// A guard that shares its lock writes in another thread, and is dropped there, which lets in a reader that shares the lock,
+// too.
 #[test]
 fn an_owned_guard_goes_to_another_thread(rt: HostRuntime) {
     let lock = Arc::new(rt.alloc(), new_lock(&rt, 7u64)).expect(&rt, "memory");
@@ -276,7 +278,7 @@ fn an_owned_guard_goes_to_another_thread(rt: HostRuntime) {
     check(&rt, "the value", *reader, 8);
 }
 
-// Who has the value, who was let in and who waits, as the lock counts them.
+// Readers and writers that have the value, that were let in and that wait, as the lock counts them.
 #[test]
 fn a_lock_counts_who_has_it_and_who_waits(rt: HostRuntime) {
     let nobody = RwLockCounts {
@@ -342,7 +344,7 @@ fn owned_readers_read_while_a_writer_waits(rt: HostRuntime) {
     check(&rt, "readers", lock.counts(&rt).readers, 0);
 }
 
-// A reader that was let in reads beside any other, before it is polled, too.
+// A reader that was let in, and not polled yet, lets any other reader read beside it.
 #[test]
 fn one_reads_beside_a_reader_that_was_let_in(rt: HostRuntime) {
     let shared = new_lock(&rt, 7u64);
@@ -391,7 +393,7 @@ fn readers_come_in_once_no_writer_waits(rt: HostRuntime) {
     }
 }
 
-// The mutex is gone but for the share of the one that was told, and with that goes its value.
+// Only the notified wait has a share of the mutex still. With that share the mutex and its value are dropped.
 #[test]
 fn a_value_is_dropped_with_the_last_one_that_was_told(rt: HostRuntime) {
     let value = Arc::new(rt.alloc(), 7u64).expect(&rt, "memory");

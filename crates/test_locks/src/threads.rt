@@ -1,5 +1,5 @@
-//! Threads that wait in each way, and are woken once they are let in. That each lock wakes whom it lets in is tested by
-//! `tasks`: a thread that is woken differs from a task in nothing else.
+//! Threads that wait in each way, and are woken once they are let in. That each lock wakes the waiters that it lets in is
+//! tested by `tasks`: a thread that is woken differs from a task in nothing else.
 use crate::support::{check, new_lock, new_task, wait_until};
 use event_locks::RwLock;
 use futures::executor::block_on;
@@ -10,7 +10,7 @@ use std::time::Duration;
 use test_kinds::Waits;
 use test_support::Runtime;
 
-// A way to wait until it is granted.
+// A way in which a thread waits.
 #[derive(Clone, Copy)]
 enum Way {
     Blocking,
@@ -21,7 +21,7 @@ enum Way {
 
 const WAYS: [Way; 4] = [Way::Blocking, Way::Timed, Way::LongestTimed, Way::Awaited];
 
-// Whether it is granted to one that waits in this way.
+// Returns whether the wait is granted to a thread that waits in this way.
 fn is_granted<R: Runtime, W: Waits>(rt: &R, waits: W, way: Way) -> bool {
     waits.can_be_polled();
     let limit = match way {
@@ -34,7 +34,7 @@ fn is_granted<R: Runtime, W: Waits>(rt: &R, waits: W, way: Way) -> bool {
     given.expect(rt, "an answer").is_some()
 }
 
-// One waits in this way, for which a task polls before, if there is one.
+// Waits in this way, after the task has polled the wait, if there is a task. Returns whether the wait is granted.
 fn waits<R: Runtime, W: Waits>(rt: &R, waits: W, way: Way, task: Option<&MockTask>) -> bool {
     let mut waits = waits;
     if let Some(task) = task {
@@ -46,13 +46,13 @@ fn waits<R: Runtime, W: Waits>(rt: &R, waits: W, way: Way, task: Option<&MockTas
     is_granted(rt, waits, way)
 }
 
-// Whether it stands in the queue, as a writer, which keeps readers out. That a thread waits on in the place of a task is seen,
-// too: the waker of a task wakes it when it is dropped.
+// Returns whether the thread is in the queue, as a writer, which keeps readers out. That a thread waits on in the place of a
+// task is seen, too: the waker of a task wakes it when it is dropped.
 fn is_in_queue<R: Runtime>(rt: &R, lock: &RwLock<u64>, task: Option<&MockTask>) -> bool {
     lock.try_read(rt).is_none() && task.map_or(true, |task| task.is_woken())
 }
 
-// Once it is seen to stand in the queue it is let in, and has to be woken.
+// Once the thread is seen to be in the queue it is let in, and has to be woken.
 #[test]
 fn a_thread_that_waits_is_woken(rt: HostRuntime) {
     let (lock, mock) = (new_lock(&rt, 7u64), new_task(&rt));

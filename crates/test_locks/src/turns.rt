@@ -5,14 +5,14 @@ use std::time::Duration;
 use test_kinds::{Case, Kind, Waits, each, numbers};
 use test_support::Runtime;
 
-// One is notified and finds the lock taken twice. It starves, and waits.
+// Has a waiter be notified and find the lock taken, twice. The waiter starves, and waits.
 macro_rules! starves {
     ($rt:expr, $kind:expr) => {{
         let mut held = $kind.hold();
         let mut one = Polled::new($rt, $kind.waits().expect($rt, "a share"));
         for _ in 0..2u32 {
             drop(held);
-            // The other one takes the lock again, since it comes first.
+            // The holder takes the lock again before the waiter polls.
             held = $kind.hold();
             check($rt, "whether it is granted", one.is_ready(), false);
         }
@@ -21,12 +21,12 @@ macro_rules! starves {
     }};
 }
 
-// What becomes of the one that starves. Nobody is shut out then.
+// What becomes of the starving waiter. No newcomer is shut out afterwards.
 #[derive(Clone, Copy, Drop)]
 enum Starving {
-    // It is notified, and newcomers take nothing meanwhile, though it is free.
+    // The waiter is notified, and newcomers take nothing meanwhile, though the lock is free.
     Granted,
-    // The same, as it comes to its limit.
+    // The waiter is notified, and takes the lock at its limit.
     GrantedAtItsLimit,
     Dropped,
     DroppedOnceNotified,

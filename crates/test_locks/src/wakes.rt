@@ -10,7 +10,7 @@ use std::thread::{self, Threads};
 use std::time::Duration;
 use test_support::Runtime;
 
-// The thread waits, and is let in by this call. What the call gives is kept until then.
+// Has a thread wait, and checks that this call lets it in. What the call returns is kept until then.
 fn is_let_in<R, W, C, G>(rt: &R, waits: W, call: C)
 where
     R: Runtime + Threads + Sync,
@@ -50,7 +50,7 @@ fn a_task_that_comes_last_lets_a_thread_in(rt: HostRuntime) {
     is_let_in(&rt, waits, comes);
 }
 
-// One that waits is given the turn to make the value, and gives it up.
+// A waiter is given the turn to make the value, and gives the turn up.
 #[test]
 fn a_turn_that_is_given_up_goes_to_a_thread(rt: HostRuntime) {
     let cell: &OnceCell<u64> = &OnceCell::new(rt.alloc());
@@ -62,7 +62,7 @@ fn a_turn_that_is_given_up_goes_to_a_thread(rt: HostRuntime) {
     is_let_in(&rt, claims, move || drop(next));
 }
 
-// It makes the value once this is so.
+// A future that makes the value once this is so.
 #[derive(Drop)]
 struct Maker<'a> {
     is_so: &'a AtomicBool,
@@ -79,7 +79,7 @@ impl Future for Maker<'_> {
     }
 }
 
-// A task makes the value, and two threads wait: one would make it, and one only sees it.
+// A task makes the value, and two threads wait: one would make the value, and the other only waits to see it.
 #[test]
 fn a_task_that_makes_a_value_lets_threads_in(rt: HostRuntime) {
     let (cell, task) = (&OnceCell::new(rt.alloc()), &new_task(&rt));
