@@ -8,9 +8,9 @@ use crate::ways::WAYS;
 use crate::ways::Way::{AtOnce, Due, Forced, GivenUp, Timed, WaitedDue, WaitedTimed};
 use std::alloc::AllocGlobal;
 
-// One message wakes a receive and all streams. A stream is dropped before, and is not woken; a receive is dropped once it is
-// told, and another one is. A poll for another reason attempts, too, and comes before who was told, who waits again. The waker
-// that it left is dropped, which wakes its task.
+// One message wakes a receive and all streams. A stream that is dropped before is not woken; a receive is dropped once it is
+// notified, and another receive is notified. A poll for another reason attempts, too, and is before the notified receive, which
+// waits again. The waker that the polled receive left is dropped, which wakes its task.
 #[test]
 fn a_send_wakes_one_receive_and_all_streams(rt: HostRuntime) {
     for way in WAYS {
@@ -37,7 +37,7 @@ fn a_send_wakes_one_receive_and_all_streams(rt: HostRuntime) {
     }
 }
 
-// The same of sends.
+// Does with sends what the test before does with receives.
 #[test]
 fn a_receive_wakes_one_send(rt: HostRuntime) {
     for way in WAYS {
@@ -58,7 +58,7 @@ fn a_receive_wakes_one_send(rt: HostRuntime) {
     }
 }
 
-// A message that replaces another one needs nobody told.
+// A message that replaces another message notifies nobody.
 #[test]
 fn a_send_by_force_takes_the_first_out(rt: HostRuntime) {
     let steps = [
@@ -74,7 +74,7 @@ fn a_send_by_force_takes_the_first_out(rt: HostRuntime) {
     run(&rt, Some(2), &steps);
 }
 
-// One receive is told of the message; the other and the send wait on until the close.
+// One receive is notified of the message; the other receive and the send wait on until the close.
 #[test]
 fn a_close_wakes_all_and_leaves_the_messages(rt: HostRuntime) {
     for way in WAYS {
@@ -97,7 +97,7 @@ fn a_close_wakes_all_and_leaves_the_messages(rt: HostRuntime) {
     }
 }
 
-// A deadline of now is past once it is looked at.
+// A deadline of now has passed once a call looks at it.
 #[test]
 fn calls_without_time_attempt_and_wake_nobody(rt: HostRuntime) {
     for way in [AtOnce, Timed, Due, WaitedTimed, WaitedDue, GivenUp] {
@@ -113,7 +113,7 @@ fn calls_without_time_attempt_and_wake_nobody(rt: HostRuntime) {
     }
 }
 
-// They are put behind what was there, and as many that wait for room are woken. An iterator has the rest.
+// The messages are put behind what the vector had, and as many sends that wait for room are woken. An iterator gets the rest.
 #[test]
 fn many_are_received_at_once(rt: HostRuntime) {
     for (limit, count) in [(2, 2), (usize::MAX, 4)] {

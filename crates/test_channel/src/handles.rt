@@ -1,4 +1,4 @@
-//! Handles: clones, weak ones, the last of a side; and what handles and errors say.
+//! Handles: clones, weak handles, the last handle of a side; and what handles and errors say.
 use crate::support::{Runtime, Sides, check, sides};
 use crate::waiting::Waiting;
 use crate::ways::Answer;
@@ -10,7 +10,7 @@ use std::sync::{Arc, Wait};
 use std::time::Clock;
 use test_support::{Change, Changed};
 
-// Both sides say that there are so many of each.
+// Checks that both sides say that there are so many handles of each.
 fn counts<R: Runtime>(rt: &R, sides: &Sides<R>, expected: (usize, usize)) {
     let answer = (sides.0.sender_count(), sides.0.receiver_count());
     check(rt, "the counts of a sender", answer, expected);
@@ -18,7 +18,7 @@ fn counts<R: Runtime>(rt: &R, sides: &Sides<R>, expected: (usize, usize)) {
     check(rt, "the counts of a receiver", answer, expected);
 }
 
-// A sender and a receiver more, by clones or by weak handles.
+// Makes one more sender and one more receiver, by clones or by weak handles.
 fn more<R: Runtime>(rt: &R, sides: &Sides<R>, by_weak: bool) -> Sides<R> {
     let (sender, receiver) = sides;
     if !by_weak {
@@ -50,7 +50,7 @@ fn handles_are_counted(rt: HostRuntime) {
     }
 }
 
-// Its runtime value is cloned so often, and then no more.
+// A runtime value that is cloned so often, and then no more.
 #[derive(Drop)]
 struct Clones(Cell<u32>);
 
@@ -62,7 +62,7 @@ impl Change for Clones {
     }
 }
 
-// Four clones of its runtime value make a sender, a receiver and the weak ones, and no more are made. Were a refused handle
+// Four clones of the runtime value make a sender, a receiver and the weak handles, and no more are made. Were a refused handle
 // counted, the channel would never close.
 fn refuses_more<R: Runtime, C: Wait + Clock + Clone>(rt: &R, clones: &C) {
     let (sender, receiver) = bounded(clones, rt.alloc(), 1).expect(rt, "a channel");
@@ -88,7 +88,8 @@ fn a_handle_that_is_refused_is_not_counted(rt: HostRuntime) {
     refuses_more(rt, &Changed { rt, by });
 }
 
-// Messages are shares of one value: one that is sent, one of a send that is dropped at once, and one of a send that waited.
+// Messages are shares of one value: a message that is sent, a message of a send that is dropped at once, and a message of a
+// send that waited.
 #[test]
 fn a_channel_goes_with_its_last_handle_and_a_message_with_its_send(rt: HostRuntime) {
     let value = Arc::new(rt.alloc(), 7u64).expect(&rt, "memory");
@@ -111,7 +112,8 @@ fn a_channel_goes_with_its_last_handle_and_a_message_with_its_send(rt: HostRunti
     check(&rt, "shares", Arc::strong_count(&value), 1);
 }
 
-// A message is dropped while a sender lives, and with it the sender of an answer that it has: whoever waits for that is told.
+// A message is dropped while a sender lives, and with the message the sender of an answer that it has: the receiver that waits
+// for the answer is notified.
 #[test]
 fn messages_go_with_the_last_receiver(rt: HostRuntime) {
     let (requests, served) = bounded(&rt, rt.alloc(), 2).expect(&rt, "a channel");
@@ -130,7 +132,7 @@ fn messages_go_with_the_last_receiver(rt: HostRuntime) {
     check(&rt, "a send", requests.is_closed(), true);
 }
 
-// Who waits on the other side is woken, and told that none is left.
+// A waiter on the other side is woken, and its wait answers that no handle is left.
 #[test]
 fn the_last_of_a_side_closes(rt: HostRuntime) {
     let (sender, receiver) = sides(&rt, Some(1));

@@ -1,5 +1,5 @@
-//! One that starves and is left alone: newcomers are refused what is due to it so often, and then go on. When it comes it is
-//! one of them.
+//! A starving waiter that does not try again: newcomers are refused so often what is due to the waiter, and then go on. When
+//! the waiter tries again later, it is a newcomer.
 use crate::support::{Runtime, check, sides};
 use crate::waiting::Waiting;
 use crate::ways::Answer::{Late, Received, Sent, Waits};
@@ -20,12 +20,12 @@ const PATIENT: [Way; 9] = [
     Way::WaitedDue,
 ];
 
-// So long that no call comes to it.
+// Returns a limit so long that no call reaches it.
 fn long() -> Duration {
     Duration::from_secs(100)
 }
 
-// A receive that starves, and is notified of the message 3.
+// Makes a receive that starves, and is notified of the message 3.
 fn starve<'a, R: Runtime>(
     rt: &R,
     sender: &Sender<usize, R>,
@@ -43,7 +43,7 @@ fn starve<'a, R: Runtime>(
     left
 }
 
-// A send of 9 that starves, and is notified of the one place.
+// Makes a send of 9 that starves, and is notified of the one place.
 fn starve_send<'a, R: Runtime>(
     rt: &R,
     sender: &'a Sender<usize, R>,
@@ -62,7 +62,7 @@ fn starve_send<'a, R: Runtime>(
     left
 }
 
-// So many receives by newcomers are refused.
+// Checks that so many receives by newcomers are refused.
 fn refuse<R: Runtime>(rt: &R, receiver: &Receiver<usize, R>, count: u32) {
     for _ in 0..count {
         check(
@@ -105,7 +105,7 @@ fn a_send_left_alone_stops_nobody(rt: HostRuntime) {
     }
 }
 
-// One fewer are refused than are borne with. What is due to it is its own.
+// One newcomer fewer is refused than would strike the waiter off. The waiter gets the message or place that is due to it.
 #[test]
 fn one_in_time_has_what_is_due_to_it(rt: HostRuntime) {
     let (sender, receiver) = sides(&rt, Some(1));
@@ -118,8 +118,8 @@ fn one_in_time_has_what_is_due_to_it(rt: HostRuntime) {
     check(&rt, "a receive", receiver.try_recv(), Ok(9));
 }
 
-// The last one is refused, too, and the next goes on. One that comes then waits behind those that came before, and has a
-// message in its turn.
+// The last of the counted newcomers is refused, too, and the next goes on. The receive that was struck off then waits behind
+// the receives that joined the queue before, and gets a message in its turn.
 #[test]
 fn a_late_receive_waits_anew(rt: HostRuntime) {
     let (sender, receiver) = sides(&rt, Some(1));
@@ -161,7 +161,7 @@ fn a_late_send_waits_anew(rt: HostRuntime) {
     check(&rt, "a receive", receiver.try_recv(), Ok(9));
 }
 
-// One that was struck off takes what is there when it comes, and at its limit as well.
+// A waiter that was struck off takes what is there when it tries again, and at its limit as well.
 #[test]
 fn one_that_is_late_takes_what_is_there(rt: HostRuntime) {
     let (sender, receiver) = sides(&rt, Some(1));
@@ -177,7 +177,8 @@ fn one_that_is_late_takes_what_is_there(rt: HostRuntime) {
     check(&rt, "a receive", receiver.try_recv(), Ok(9));
 }
 
-// In which round one is served that starves, and comes only after so many attempts of a newcomer, or once that has the message.
+// Returns in which round a starving receive is served that tries only after so many attempts of a newcomer, or once the
+// newcomer has the message.
 fn served_in_round<R: Runtime>(rt: &R, late: usize) -> usize {
     let (sender, receiver) = sides(rt, Some(1));
     let mut left = starve(rt, &sender, &receiver);
@@ -195,7 +196,7 @@ fn served_in_round<R: Runtime>(rt: &R, late: usize) -> usize {
     100
 }
 
-// Each time that it loses once more, twice as many are refused for its sake.
+// Each time that the receive loses once more, twice as many newcomers are refused for its sake.
 #[test]
 fn one_that_is_always_late_is_served(rt: HostRuntime) {
     for (late, round) in [(64, 1), (65, 3), (128, 3), (129, 5), (1000, 9)] {
@@ -203,7 +204,7 @@ fn one_that_is_always_late_is_served(rt: HostRuntime) {
     }
 }
 
-// As one is struck off, the one behind it is notified in its place. Until then a stream comes again and again.
+// When a receive is struck off, the receive behind it is notified in its place. Until then a stream tries again and again.
 #[test]
 fn the_next_is_notified_in_its_place(rt: HostRuntime) {
     let (sender, receiver) = sides(&rt, Some(1));
@@ -231,8 +232,8 @@ fn the_next_is_notified_in_its_place(rt: HostRuntime) {
     check(&rt, "its poll", left.poll(), Received(4));
 }
 
-// One that is notified and does not starve is left alone before one that starves: newcomers go on, and the one that
-// starves has the next.
+// A notified receive that does not starve does not try, before a receive that starves: newcomers go on, and the starving
+// receive gets the next message.
 #[test]
 fn one_before_one_that_starves_stops_nobody(rt: HostRuntime) {
     let (sender, receiver) = sides(&rt, Some(1));
@@ -280,7 +281,7 @@ fn one_before_a_send_that_starves_stops_nobody(rt: HostRuntime) {
     check(&rt, "its poll", starving.poll(), Sent);
 }
 
-// What is refused as nothing is there is not counted, nor what one does that waits in the queue.
+// A call that is refused because nothing is there is not counted, nor an attempt of a waiter in the queue.
 #[test]
 fn others_that_are_refused_are_not_counted(rt: HostRuntime) {
     let (sender, receiver) = sides(&rt, Some(1));
@@ -305,7 +306,7 @@ fn others_that_are_refused_are_not_counted(rt: HostRuntime) {
     check(&rt, "its poll", left.poll(), Received(3));
 }
 
-// Two starve, and both are left alone. For each of them so many are refused.
+// Two receives starve, and neither tries again. For each of them so many newcomers are refused.
 #[test]
 fn the_next_that_starves_has_its_own_time(rt: HostRuntime) {
     let (sender, receiver) = sides(&rt, Some(2));
@@ -330,7 +331,8 @@ fn the_next_that_starves_has_its_own_time(rt: HostRuntime) {
     check(&rt, "the poll of the first", first.poll(), Waits);
 }
 
-// Many that are received at once wait for what is due no more, and none is refused twice by one attempt.
+// A receive of many messages at once no longer waits for messages that are due to others, and one attempt counts no refusal
+// twice.
 #[test]
 fn many_are_received_past_one_left_alone(rt: HostRuntime) {
     let (sender, receiver) = sides(&rt, None);

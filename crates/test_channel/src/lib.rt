@@ -1,5 +1,5 @@
 //! Tests of `event_channel`: that its calls reach the state under its lock, whose clauses say what each step does to the
-//! messages and to those that wait.
+//! messages and to the waiters.
 //!
 //! | Module | What it tests |
 //! |---|---|

@@ -36,7 +36,7 @@ fn a_call_that_has_time_waits_so_long(rt: HostRuntime) {
     }
 }
 
-// Whether a receive from an empty channel, and a send into a full one, ends well before twice its limit.
+// Returns whether a receive from an empty channel, and a send into a full channel, ends well before twice its limit.
 fn end_soon<R: Runtime>(rt: &R, way: Way) -> [bool; 2] {
     let (limit, soon) = (Duration::from_millis(50), Duration::from_millis(87));
     let (sender, receiver) = sides(rt, Some(1));
@@ -80,8 +80,8 @@ fn a_clock_that_cannot_be_read_is_past_the_limit(rt: HostRuntime) {
     check(rt, "no message", receiver.recv_timeout(MAX).ok(), None);
 }
 
-// A clock that shows the time once another thread has made its call: at 2 it is read, at 3 the call is made. If it begins
-// at 0 it is read once before, and is early.
+// A clock that shows the time once another thread has made its call: at 2 it is read, at 3 the call is made. If the step begins
+// at 0 the clock is read once before, and is early.
 #[derive(Drop)]
 struct Meets<'a, R> {
     rt: &'a R,
@@ -98,7 +98,8 @@ impl<R: Runtime> Change for Meets<'_, R> {
     }
 }
 
-// A receive or a send until a moment that has passed when it looks at the clock. The message or the room comes while it does.
+// A receive or a send until a moment that has passed when it looks at the clock. Another thread makes the message or the room
+// while the call looks.
 fn is_taken<R, C>(rt: &R, clock: &C, step: &AtomicUsize, is_send: bool)
 where
     R: SharedRuntime,
@@ -129,7 +130,7 @@ where
     check(rt, "the wait, and the call meanwhile", both, (true, true));
 }
 
-// The first reading comes before the queue, the second in it.
+// The first reading is before the call joins the queue, the second in the queue.
 fn each_is_taken<R, C>(rt: &R, clock: &C, step: &AtomicUsize)
 where
     R: SharedRuntime,

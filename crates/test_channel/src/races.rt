@@ -31,7 +31,7 @@ fn meet<R: Runtime>(rt: &R, come: &AtomicUsize, far: usize, looks: usize) {
     }
 }
 
-// New channels: for each of two threads both sides of all of them.
+// Makes new channels: for each of two threads both sides of all channels.
 fn channels<R: Runtime>(rt: &R) -> (Vec<Sides<R>>, Vec<Sides<R>>) {
     let (mut first, mut second) = (Vec::new(rt.alloc()), Vec::new(rt.alloc()));
     for _ in 0..CHANNELS {
@@ -93,7 +93,7 @@ enum Handle<R: Wait + Clock + Clone> {
 }
 
 impl<R: Runtime> Handle<R> {
-    // Another one, by a clone or by a weak handle.
+    // Makes another handle, by a clone or by a weak handle.
     fn more(&self, rt: &R, by_weak: bool) -> Self {
         match self {
             Handle::Sender(sender) if by_weak => {
@@ -114,7 +114,8 @@ impl<R: Runtime> Handle<R> {
     }
 }
 
-// Makes its handles as the others do. Once they are counted it drops them, with the one that it was given.
+// Makes the thread's handles, as the other threads make theirs. Once the handles are counted the thread drops them, with the
+// handle that it was given.
 fn make_and_drop<R: Runtime>(rt: &R, own: Handle<R>, come: &AtomicUsize, made: &Barrier) {
     let mut more = Vec::with_capacity(rt.alloc(), HANDLES).expect(rt, "room");
     meet(rt, come, THREADS, 0);
@@ -129,7 +130,7 @@ fn make_and_drop<R: Runtime>(rt: &R, own: Handle<R>, come: &AtomicUsize, made: &
     drop(own);
 }
 
-// All handles of one side are made and dropped by the threads. The other side counts them, and is told that none is left.
+// All handles of one side are made and dropped by the threads. The other side counts them, and answers that no handle is left.
 fn count_and_close<R: SharedRuntime>(rt: &R, is_senders: bool) {
     let ((sender, receiver), come) = (sides(rt, None), &AtomicUsize::new(0));
     let (first, other) = if is_senders {
@@ -167,7 +168,7 @@ fn handles_that_are_made_and_dropped_at_once_are_counted(rt: HostRuntime) {
     }
 }
 
-// Each sends the last message of its channel.
+// Sends the last message of each channel.
 fn send_last<R: Runtime>(rt: &R, all: Vec<Sides<R>>, come: &AtomicUsize) {
     for (number, (sender, _receiver)) in all.into_iter().enumerate() {
         let far = number.saturating_mul(2).saturating_add(2);
@@ -178,7 +179,7 @@ fn send_last<R: Runtime>(rt: &R, all: Vec<Sides<R>>, come: &AtomicUsize) {
     }
 }
 
-// Receives them, each before the end.
+// Receives the last message of each channel, before the end of that channel.
 fn receive_until_closed<R: Runtime>(rt: &R, all: Vec<Sides<R>>, come: &AtomicUsize) {
     for (number, (sender, receiver)) in all.into_iter().enumerate() {
         drop(sender);
@@ -210,7 +211,7 @@ fn no_receive_answers_closed_before_the_last_message(rt: HostRuntime) {
     for_two_seconds(&rt, || end_as_others_receive(&rt)).expect(&rt, "the time");
 }
 
-// Sends messages by twos, and takes one back each time. Then it closes the channel.
+// Sends messages by twos, and takes one message back each time. Then closes the channel.
 fn send_and_take<R: Runtime>(sender: &Sender<usize, R>, receiver: &Receiver<usize, R>) {
     let mut next = 0usize;
     for turn in 0..2 * TURNS {
@@ -224,7 +225,7 @@ fn send_and_take<R: Runtime>(sender: &Sender<usize, R>, receiver: &Receiver<usiz
     sender.close();
 }
 
-// Receives two at once, which are adjacent.
+// Receives two messages at once, which are adjacent.
 fn take_twos<R: Runtime>(rt: &R, receiver: &Receiver<usize, R>) {
     let mut two = Vec::with_capacity(rt.alloc(), 2).expect(rt, "room");
     for _ in rt.forever() {

@@ -5,7 +5,7 @@ use crate::ways::{Answer, Way};
 use event_channel::{Receiver, Sender};
 use std::time::Duration;
 
-/// A call of a test. Those that wait go by their numbers, in the order in which they are made.
+/// A call of a test. Waiters are named by their numbers, in the order in which they are made.
 #[derive(Clone, Copy)]
 pub enum Call {
     /// A send in this way, without time.
@@ -25,8 +25,8 @@ pub enum Call {
     Close,
 }
 
-/// A call, its answer, and which of the first five that wait are woken then (1) since their last polls began, or since they
-/// were dropped.
+/// A call, its answer, and which of the first five waiters are woken then (1) since their last polls began, or since they were
+/// dropped.
 pub type Step = (Call, Answer, [u8; 5]);
 
 #[derive(Drop)]
@@ -74,7 +74,7 @@ impl<'a, R: Runtime> Desk<'a, R> {
         }
     }
 
-    // Both sides say how many messages there are, and whether more fit and may come.
+    // Checks that both sides say how many messages there are, and whether more fit and may be sent.
     fn says(&self, capacity: Option<usize>, is_closed: bool) {
         let (rt, sender, receiver) = (self.rt, self.sender, self.receiver);
         let expected = (self.len, self.len == 0, capacity == Some(self.len));
@@ -87,7 +87,7 @@ impl<'a, R: Runtime> Desk<'a, R> {
     }
 }
 
-/// Makes these calls on a new channel of this capacity. Each gives its answer.
+/// Makes these calls on a new channel of this capacity, and checks that each gives its answer.
 pub fn run<R: Runtime>(rt: &R, capacity: Option<usize>, steps: &[Step]) {
     let (sender, receiver) = &sides(rt, capacity);
     let mut desk = Desk {

@@ -4,8 +4,8 @@ use std::fmt::Debug;
 use std::process::Abort;
 pub use test_support::{Runtime, SharedRuntime};
 
-/// The answer is the expected one. Where it is not, the message has both, and what was asked. The assertion stands here
-/// once, in a generic function, and is proved once.
+/// Checks that the answer is the expected answer. Where it is not, the message has both, and what was asked. The assertion
+/// stands here once, in a generic function, and is proved once.
 pub fn check<A, V, R>(rt: &R, asked: A, answer: V, expected: V)
 where
     A: Debug + Drop,
@@ -18,7 +18,7 @@ where
 /// Both sides of a channel of numbers.
 pub type Sides<R> = (Sender<usize, R>, Receiver<usize, R>);
 
-/// A new channel with this capacity or without a limit.
+/// Makes a new channel with this capacity or without a limit.
 pub fn sides<R: Runtime>(rt: &R, capacity: Option<usize>) -> Sides<R> {
     let made = match capacity {
         Some(capacity) => bounded(rt, rt.alloc(), capacity),

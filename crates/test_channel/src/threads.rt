@@ -1,4 +1,4 @@
-//! Many threads and tasks at once: each message that is sent is received once, and those of one sender in order.
+//! Many threads and tasks at once: each message that is sent is received once, and the messages of one sender in order.
 use crate::support::{Runtime, SharedRuntime, check, sides};
 use crate::ways::{Answer, WAYS, of_recv};
 use event_channel::{Receiver, Sender};
@@ -7,7 +7,7 @@ use std::thread;
 use std::time::{Duration, Instant};
 use test_support::deadline_after;
 
-// The most messages of a sender. Those of the next begin so much later.
+// The most messages of a sender. The numbers of the next sender's messages begin so much later.
 const MOST: usize = 500;
 
 // No message is sent after so many milliseconds, once a sender has sent so many messages.
@@ -21,7 +21,7 @@ const SIDE: usize = 8;
 // A thread makes its handle anew by a weak one after so many messages.
 const RENEWED: usize = 16;
 
-// Sends the messages of a sender, until the channel is closed or it has sent the least and time is up.
+// Sends the messages of a sender, until the channel is closed or the least number is sent and time is up.
 fn send_all<R: Runtime>(
     rt: &R,
     end: Instant,
@@ -52,7 +52,7 @@ fn send_all<R: Runtime>(
     sent
 }
 
-// Receives messages until the channel is closed and empty. It closes the channel after so many.
+// Receives messages until the channel is closed and empty. Closes the channel after so many messages.
 fn receive_all<R: Runtime>(
     rt: &R,
     closes_after: usize,
@@ -121,7 +121,7 @@ fn run<R: SharedRuntime>(rt: &R, capacity: Option<usize>, patience: u64, closes_
     check(rt, plan, sorted(rt, received), sent);
 }
 
-// Whether the messages of each sender rise, at one receiver.
+// Returns whether the messages of each sender rise, at one receiver.
 fn is_in_order(messages: &[usize]) -> bool {
     let mut next = [0usize; SIDE];
     for message in messages {
@@ -133,7 +133,7 @@ fn is_in_order(messages: &[usize]) -> bool {
     true
 }
 
-// The messages of all threads.
+// Returns the messages of all threads.
 fn sorted<R: Runtime>(rt: &R, threads: Vec<Vec<usize>>) -> Vec<usize> {
     let mut all = Vec::new(rt.alloc());
     for message in threads.into_iter().flatten() {
@@ -143,7 +143,7 @@ fn sorted<R: Runtime>(rt: &R, threads: Vec<Vec<usize>>) -> Vec<usize> {
     all
 }
 
-// A call that waits for room may be out of time before it waits, or given up while it is told. In the last runs a receiver
+// A call that waits for room may be out of time before it waits, or given up while it is notified. In the last runs a receiver
 // closes the channel in the middle.
 #[test]
 fn each_message_is_received_once(rt: HostRuntime) {

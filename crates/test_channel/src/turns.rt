@@ -1,4 +1,4 @@
-//! One that was notified and found nothing twice: newcomers leave it what is due to it, until it has come again.
+//! A waiter that was notified and found nothing twice: newcomers leave it what is due to it, until it has tried again.
 use crate::script::{Call, Step, run};
 use crate::support::{Runtime, check, sides};
 use crate::waiting::Waiting;
@@ -10,7 +10,7 @@ use std::alloc::AllocGlobal;
 // Ways that have no time to wait.
 const QUICK: [Way; 6] = [AtOnce, Timed, Due, WaitedTimed, WaitedDue, GivenUp];
 
-// A receive is notified of a message, and another one comes before it, twice.
+// Has a receive be notified of a message, and another receive take the message before it, twice.
 fn starve(way: Way) -> [Step; 7] {
     [
         (Call::AwaitReceive, Waits, [0, 0, 0, 0, 0]),
@@ -23,7 +23,7 @@ fn starve(way: Way) -> [Step; 7] {
     ]
 }
 
-// The same of a send: another one comes before it, twice.
+// Has a send be notified of a place, and another send take the place before it, twice.
 fn starve_send(way: Way) -> [Step; 8] {
     [
         (Call::Send(way, 0), Sent, [0, 0, 0, 0, 0]),
@@ -45,17 +45,17 @@ fn run_both<R: Runtime>(rt: &R, capacity: Option<usize>, first: &[Step], then: &
     run(rt, capacity, &all);
 }
 
-// Makes these calls after those by which the first receive starves.
+// Makes these calls after the calls by which the first receive starves.
 fn run_starving<R: Runtime>(rt: &R, way: Way, steps: &[Step]) {
     run_both(rt, None, &starve(way), steps);
 }
 
-// The same of a send into a channel with room for one.
+// Makes these calls after the calls by which the first send starves, on a channel with room for one message.
 fn run_starving_send<R: Runtime>(rt: &R, way: Way, steps: &[Step]) {
     run_both(rt, Some(1), &starve_send(way), steps);
 }
 
-// The third message is its own. Then it starves no more: what is due to another one newcomers take.
+// The starving receive gets the third message. Then it starves no more: newcomers take what is due to another receive.
 #[test]
 fn a_receive_by_turns_has_the_third_message(rt: HostRuntime) {
     for way in QUICK {
@@ -72,8 +72,8 @@ fn a_receive_by_turns_has_the_third_message(rt: HostRuntime) {
     }
 }
 
-// A message more than are notified is there for newcomers. One that comes while each is due to another one does not wait
-// behind it: it comes again by itself.
+// One message more than there are notified receives is there for newcomers. A newcomer that finds each message due to another
+// receive does not wait in the queue: it tries again by itself.
 #[test]
 fn newcomers_take_what_is_not_due(rt: HostRuntime) {
     for way in QUICK {
@@ -92,7 +92,7 @@ fn newcomers_take_what_is_not_due(rt: HostRuntime) {
     }
 }
 
-// One that is polled again without being notified loses nothing by that.
+// A receive that is polled again without being notified loses nothing by that.
 #[test]
 fn a_poll_that_nothing_woke_is_no_loss(rt: HostRuntime) {
     let steps = [
@@ -109,7 +109,7 @@ fn a_poll_that_nothing_woke_is_no_loss(rt: HostRuntime) {
     run(&rt, None, &steps);
 }
 
-// What was due to one that is dropped is there for newcomers, and so is all in a closed channel.
+// A message that was due to a dropped receive is there for newcomers, and so is each message in a closed channel.
 #[test]
 fn one_that_is_gone_keeps_nothing_back(rt: HostRuntime) {
     for way in QUICK {
@@ -131,8 +131,8 @@ fn one_that_is_gone_keeps_nothing_back(rt: HostRuntime) {
     }
 }
 
-// A stream is a newcomer. While each message is due to another one it comes again by itself, until the receive came or was
-// dropped.
+// A stream is a newcomer. While each message is due to another waiter the stream tries again by itself, until the receive has
+// tried or is dropped.
 #[test]
 fn a_stream_waits_for_what_is_not_due(rt: HostRuntime) {
     for way in QUICK {
@@ -156,7 +156,7 @@ fn a_stream_waits_for_what_is_not_due(rt: HostRuntime) {
     }
 }
 
-// It is at its limit, and its message is there still. Many that are received at once are as many as are not due.
+// The receive is at its limit, and its message is there still. A receive of many messages at once gets as many as are not due.
 #[test]
 fn one_at_its_limit_has_what_is_due_to_it(rt: HostRuntime) {
     let (sender, receiver) = sides(&rt, None);
@@ -183,7 +183,7 @@ fn one_at_its_limit_has_what_is_due_to_it(rt: HostRuntime) {
     check(&rt, "its end", starving.end(), Received(5));
 }
 
-// The third place is its own. Then it starves no more: what is due to another one newcomers take.
+// The starving send gets the third place. Then it starves no more: newcomers take what is due to another send.
 #[test]
 fn a_send_by_turns_has_the_third_place(rt: HostRuntime) {
     for way in QUICK {
@@ -200,7 +200,7 @@ fn a_send_by_turns_has_the_third_place(rt: HostRuntime) {
     }
 }
 
-// Its place is there for newcomers once it is dropped. What comes by force takes it at any time.
+// The place of the send is there for newcomers once the send is dropped. A forced send takes the place at any time.
 #[test]
 fn a_place_is_taken_by_force_or_left(rt: HostRuntime) {
     for way in QUICK {
@@ -223,7 +223,8 @@ fn a_place_is_taken_by_force_or_left(rt: HostRuntime) {
     }
 }
 
-// Two places are free, and one send is notified: one is there for newcomers. It is at its limit, and its place is there still.
+// Two places are free, and one send is notified: one place is there for newcomers. The send is at its limit, and its place is
+// there still.
 #[test]
 fn newcomers_take_places_that_are_not_due(rt: HostRuntime) {
     let (sender, receiver) = sides(&rt, Some(2));

@@ -27,14 +27,14 @@ enum Awaited<'a, R: Wait + Clock + Clone> {
     Over,
 }
 
-/// What is awaited by a task of its own.
+/// A send, a receive or a stream, with the task that awaits it.
 #[derive(Drop)]
 pub struct Waiting<'a, R: Wait + Clock + Clone> {
     task: MockTask,
     awaited: Awaited<'a, R>,
 }
 
-// Polls a send. One that is not done comes back.
+// Polls a send. A send that is not done is returned.
 fn poll_send<'a, R: Runtime>(task: &MockTask, unsent: Unsent<'a, R>) -> (Awaited<'a, R>, Answer) {
     let Unsent { mut send } = unsent;
     match task.poll(&mut send) {
@@ -44,31 +44,31 @@ fn poll_send<'a, R: Runtime>(task: &MockTask, unsent: Unsent<'a, R>) -> (Awaited
 }
 
 impl<'a, R: Runtime> Waiting<'a, R> {
-    // Its task is not woken.
+    // The task is not woken.
     fn new(rt: &R, awaited: Awaited<'a, R>) -> Self {
         let task = MockTask::new(rt).expect(rt, "a task");
         task.enter(|_| ());
         Waiting { task, awaited }
     }
 
-    /// A send of this message, which was not polled yet.
+    /// Makes a send of this message, which was not polled yet.
     pub fn send(rt: &R, sender: &'a Sender<usize, R>, message: usize) -> Self {
         let send = sender.send(message);
         Waiting::new(rt, Awaited::Send(Unsent { send }))
     }
 
-    /// A receive, which was not polled yet.
+    /// Makes a receive, which was not polled yet.
     pub fn receive(rt: &R, receiver: &'a Receiver<usize, R>) -> Self {
         Waiting::new(rt, Awaited::Receive(receiver.recv()))
     }
 
-    /// A clone of this receiver as a stream, which was not polled yet.
+    /// Makes a stream of a clone of this receiver, which was not polled yet.
     pub fn stream(rt: &R, receiver: &Receiver<usize, R>) -> Self {
         let stream = receiver.clone().expect(rt, "a receiver");
         Waiting::new(rt, Awaited::Stream(stream))
     }
 
-    /// What a poll answers.
+    /// Polls, and returns the answer.
     pub fn poll(&mut self) -> Answer {
         let (awaited, answer) = match mem::replace(&mut self.awaited, Awaited::Over) {
             Awaited::Send(unsent) => poll_send(&self.task, unsent),
@@ -92,13 +92,13 @@ impl<'a, R: Runtime> Waiting<'a, R> {
         answer
     }
 
-    /// Drops what it awaits. Its task is left, and counts as not woken.
+    /// Drops what the task awaits. The task is left, and counts as not woken.
     pub fn give_up(&mut self) {
         self.awaited = Awaited::Over;
         self.task.enter(|_| ());
     }
 
-    /// What a send or a receive answers that is at its limit. A stream is dropped.
+    /// Returns what a send or a receive answers at its limit. A stream is dropped.
     pub fn end(&mut self) -> Answer {
         match mem::replace(&mut self.awaited, Awaited::Over) {
             Awaited::Send(Unsent { send }) => of_send(send.wait_timeout(Duration::ZERO)),
@@ -107,7 +107,7 @@ impl<'a, R: Runtime> Waiting<'a, R> {
         }
     }
 
-    /// Whether its task was woken since its last poll began, or since it gave up.
+    /// Returns whether the task was woken since its last poll began, or since it gave up.
     pub fn is_woken(&self) -> bool {
         self.task.is_woken()
     }

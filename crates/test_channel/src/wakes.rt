@@ -1,5 +1,5 @@
-//! Threads that are blocked: each that is notified is woken, and no other one. A thread that is not blocked yet needs nobody
-//! to wake it, so each test is made with longer and longer pauses before the call that wakes.
+//! Threads that are blocked: each thread that is notified is woken, and no other thread. A thread that is not blocked yet needs
+//! nobody to wake it, so each test is made with longer and longer pauses before the call that wakes.
 use crate::support::{SharedRuntime, check, sides};
 use crate::waiting::Waiting;
 use crate::ways::{Answer, Way, of_timed_recv};
@@ -16,7 +16,7 @@ fn limit() -> Duration {
     Duration::from_secs(100)
 }
 
-// A thread is blocked, and then a task waits. Whether one message wakes the task, too.
+// Blocks a thread, and then has a task wait. Returns whether one message wakes the task, too.
 fn wakes_the_task<R: SharedRuntime>(rt: &R, way: Way, send: Way, pause: u64) -> bool {
     let (sender, receiver) = &sides(rt, None);
     let blocked = || way.receive(rt, receiver, limit());
@@ -47,7 +47,8 @@ fn a_message_for_a_blocked_thread_wakes_no_other_receive(rt: HostRuntime) {
     }
 }
 
-// A receive is polled, and then blocks a thread. It is woken at the place that it has: a new one would be the last.
+// A receive is polled, and then blocks a thread. The thread is woken at the place that the receive has: a new place would be
+// the last.
 fn waits_at_its_place<R: SharedRuntime>(rt: &R, pause: u64) {
     let (sender, receiver) = &sides(rt, None);
     let task = MockTask::new(rt).expect(rt, "a task");
@@ -72,15 +73,15 @@ fn one_that_was_polled_waits_at_its_place(rt: HostRuntime) {
     }
 }
 
-// How one ends that was told: it is dropped, or it comes to its limit.
+// How a notified wait ends: the wait is dropped, or reaches its limit.
 #[derive(Clone, Copy, Debug, PartialEq, Eq)]
 enum End {
     Dropped,
     Late,
 }
 
-// One waits, a send or a receive, and is told as soon as another call makes room or sends. If it is dropped, the next one of its
-// side is told. If it comes to its limit, it is done still, and one of the other side is told.
+// A send or a receive waits, and is notified as soon as another call makes room or sends. If the wait is dropped, the next
+// waiter of its side is notified. If the wait reaches its limit, it is done still, and a waiter of the other side is notified.
 #[derive(Clone, Copy, Debug)]
 struct Told {
     is_send: bool,
@@ -93,7 +94,7 @@ impl Told {
         self.is_send == (self.end == End::Dropped)
     }
 
-    // Tells the one that waits.
+    // Makes the call that notifies the waiter.
     fn tell<R: SharedRuntime>(
         self,
         rt: &R,
@@ -107,7 +108,7 @@ impl Told {
         }
     }
 
-    // It ends, which tells the next one.
+    // Ends the notified wait, which notifies the next waiter.
     fn end<R: SharedRuntime>(
         self,
         rt: &R,

@@ -10,18 +10,18 @@ use std::thread;
 use std::time::Duration;
 use test_support::deadline_after;
 
-/// What a call answered. That a message which was not sent comes back is a clause of each call.
+/// What a call answered. That a message which was not sent is returned is a clause of each call.
 #[derive(Clone, Copy, Debug, PartialEq, Eq)]
 pub enum Answer {
     Sent,
     Received(usize),
-    /// Another one was sent, and this went out.
+    /// Another message was sent, and this message went out.
     Out(usize),
     Waits,
     /// The channel was full or empty: the call did not wait, was out of time, or was given up.
     Late,
     Closed,
-    /// It was refused memory, or was done before.
+    /// The call was refused memory, or was done before.
     Failed,
 }
 
@@ -65,7 +65,7 @@ pub const WAYS: [Way; 12] = [
 ];
 
 impl Way {
-    /// Sends a message. One that has a limit waits so long for room.
+    /// Sends a message. A way that has a limit waits so long for room.
     pub fn send<R: Runtime>(
         self,
         rt: &R,
@@ -90,7 +90,7 @@ impl Way {
         }
     }
 
-    /// Receives a message. One that has a limit waits so long for it.
+    /// Receives a message. A way that has a limit waits so long for a message.
     pub fn receive<R: Runtime>(
         self,
         rt: &R,
@@ -117,7 +117,7 @@ impl Way {
     }
 }
 
-// Between the poll and the drop others may tell it.
+// Between the poll and the drop other calls may notify the wait.
 fn once<R: Runtime>(mut waiting: Waiting<'_, R>) -> Answer {
     match waiting.poll() {
         Answer::Waits => {
@@ -160,7 +160,7 @@ pub fn of_recv(answer: Result<usize, RecvError>) -> Answer {
     }
 }
 
-/// What a receive answered that waited in time, or was late.
+/// Returns what a receive answered that waited in time, or was late.
 pub fn of_timed_recv(answer: Result<usize, RecvTimeoutError>) -> Answer {
     match answer {
         Ok(message) => Answer::Received(message),
