@@ -1,4 +1,4 @@
-//! Callers of events: who gets which tag, and which tasks are woken.
+//! Callers of events: which listener gets which tag, and which tasks are woken.
 mod flags;
 mod timed;
 
@@ -14,7 +14,7 @@ use futures::test::MockTask;
 use std::thread;
 use test_support::{Runtime, spin_until};
 
-// One of two is told already when it is told once more, and the other one then.
+// One of two listeners is notified already when it is notified once more, and the other listener then.
 #[test]
 fn a_default_notification_counts_who_is_told_and_an_additional_one_does_not(rt: HostRuntime) {
     let tags = tags_of_two(&rt, rt.alloc(), new_id(&rt));
@@ -81,7 +81,7 @@ fn sits<R: Runtime>(rt: &R, task: &MockTask, sitting: &mut Sitting<'_, R>, expec
     check(rt, "whether there is a seat", has_seat, Ok(expected));
 }
 
-// The task of the first who waits is woken once the seat is left. A future that gives up hands its turn on.
+// The task of the first waiter is woken once the seat is left. A future that gives up hands its turn on.
 #[test]
 fn those_who_wait_for_a_desk_sit_one_after_another(rt: HostRuntime) {
     let (rt, desk) = (&rt, &Desk::new(new_id(&rt)));

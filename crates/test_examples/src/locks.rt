@@ -59,7 +59,7 @@ impl<'a, R: Runtime> Polled<'a, R> {
     }
 }
 
-// The task of the last poll is the one that is woken.
+// The task of the last poll is the task that is woken.
 #[test]
 fn pending_while_it_is_held_and_ready_once_it_is_free(rt: HostRuntime) {
     let (rt, mutex) = (&rt, &new_mutex(&rt));
@@ -78,7 +78,7 @@ fn pending_while_it_is_held_and_ready_once_it_is_free(rt: HostRuntime) {
     check(rt, "another poll", again, Some(MutexError::Finished));
 }
 
-// Who was told may find the lock taken again. The poll then has no waker left, so its task must be woken.
+// A notified client may find the lock taken again. The poll then has no waker left, so its task must be woken.
 #[test]
 fn a_told_lock_that_comes_too_late_is_polled_again(rt: HostRuntime) {
     let (rt, mutex) = (&rt, &new_mutex(&rt));
@@ -95,7 +95,7 @@ fn a_told_lock_that_comes_too_late_is_polled_again(rt: HostRuntime) {
     drop(polled.is_given(rt));
 }
 
-// The notification of a guard counts whoever is told already, so a second guard wakes nobody.
+// The notification of a guard counts a listener that is notified already, so a second guard wakes nobody.
 #[test]
 fn a_told_lock_that_is_dropped_passes_its_turn_on(rt: HostRuntime) {
     let (rt, mutex) = (&rt, &new_mutex(&rt));
@@ -123,7 +123,7 @@ fn the_second_try_takes_a_lock_that_was_freed_meanwhile(rt: HostRuntime) {
     let guard = given.expect(rt, "an answer").expect(rt, "the lock");
     check(rt, "held", mutex.try_lock(rt).is_none(), true);
 
-    // Its listener is gone: the next who listens is the first to be told.
+    // Its listener is gone: the next client that listens is the first to be notified.
     let polled = Polled::new(rt, mutex);
     drop(guard);
     is_woken(rt, &polled.task, true);

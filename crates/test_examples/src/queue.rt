@@ -1,4 +1,4 @@
-//! Callers of the queue: a line of visitors under a lock, and who is called with which tag.
+//! Callers of the queue: a line of visitors under a lock, and which visitor is called with which tag.
 use crate::support::check;
 use event_queue::ListenError::SerialsUsedUp;
 use event_queue::{Key, List, RegisterResult, Woken};
@@ -38,7 +38,7 @@ fn stands<T: Drop, R: Abort>(rt: &R, line: &mut List<T, u64>, visitor: u64) -> K
     key
 }
 
-// Who has this key was called with this tag.
+// Checks that the waiter with this key was called with this tag.
 fn gets<T: PartialEq + Debug + Drop, R: Abort>(rt: &R, line: &mut List<T, u64>, key: Key, tag: T) {
     let answer = line.register_uncounted(key, 0);
     check(rt, "the tag", answer, RegisterResult::Notified(tag));
@@ -80,7 +80,8 @@ fn who_leaves_a_line_looks_at_few_others(rt: HostRuntime) {
     stands(&rt, &mut line, 30);
     stands(&rt, &mut line, 40);
     admit_counted(&mut line, 2, &mut called);
-    // One who was admitted looks at the neighbors and the one admitted in its place, and the next at the neighbors.
+    // An admitted visitor that leaves looks at the neighbors and the visitor admitted in its place, and the next at the
+    // neighbors.
     let looked = leave_counted(&mut line, second, &mut called);
     check(&rt, "visits, looks", looked, (3, 1));
     let looked = leave_counted(&mut line, second, &mut called);

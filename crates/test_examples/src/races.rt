@@ -30,7 +30,7 @@ fn ten_threads_with_permits_count_to_ten(rt: HostRuntime) {
     raced.expect(&rt, "the time");
 }
 
-// Whichever comes first, the wait ends and leaves no listener.
+// Whichever thread is first, the wait ends and leaves no listener.
 #[test]
 fn a_thread_waits_until_another_one_sets_the_flag(rt: HostRuntime) {
     for_two_seconds(&rt, || {
@@ -57,7 +57,7 @@ fn two_threads_hear_what_two_others_say(rt: HostRuntime) {
     }
 }
 
-// Alone, the two are all that listen; beside another one that listens they are not.
+// Alone, the two listeners are all that listen; beside another listener they are not.
 #[test]
 fn a_drop_passes_on_to_the_next(rt: HostRuntime) {
     let event = Event::new(new_id(&rt));
@@ -73,7 +73,7 @@ fn a_drop_passes_on_to_the_next(rt: HostRuntime) {
     }
 }
 
-// Another thread leaves the seat. The one who waits tries as soon as its task is woken, and needs no lock for that.
+// Another thread leaves the seat. The waiter tries as soon as its task is woken, and needs no lock for that.
 fn who_is_woken_sits<R: Host>(rt: &R, desk: &Desk, task: &MockTask) {
     let seat = desk.try_sit(rt).expect(rt, "a seat");
     let mut waiting = desk.sit(rt, rt.alloc());
@@ -102,7 +102,7 @@ fn who_is_woken_finds_the_seat_free(rt: HostRuntime) {
     raced.expect(&rt, "the time");
 }
 
-// The record of a race has one notification, which is that of the first hand. Each who listened took it, or was dropped.
+// The record of a race has one notification, which is that of the first hand. Each listener took it, or was dropped.
 fn is_recorded_whole<R: Host>(rt: &R) {
     let record = race(rt, rt.alloc(), new_id(rt), 4).expect(rt, "a record");
     let entries = || record.entries().iter();

@@ -56,7 +56,7 @@ fn errors_of_meetings_have_their_texts(rt: HostRuntime) {
     reads(&rt, SitError::from(NeverInserted), ABSENT);
 }
 
-// Those of whoever waits for a tag.
+// The errors of a caller that waits for a tag.
 #[test]
 fn errors_of_tags_have_their_texts(rt: HostRuntime) {
     reads(&rt, TagError::from(WaitError::<u8>::NeverInserted), ABSENT);

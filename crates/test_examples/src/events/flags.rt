@@ -1,4 +1,4 @@
-//! Flags that are set between the first look of who waits and the queue, and who is told.
+//! Flags that are set between a waiter's first look and its place in the queue, and which listeners are notified.
 use crate::support::check;
 use event_listener::{Entry, EventIds, Listener, RecordedCall, RecordedReply};
 use example_events::flag::{Flag, pair};

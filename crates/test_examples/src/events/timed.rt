@@ -7,7 +7,8 @@ use std::cell::Cell;
 use std::time::{Clock, Duration, Instant};
 use test_support::{Changed, NoClock, Runtime};
 
-// Of two listeners one is told. That one gets its tag, however short the limit is, and the other one waits until then.
+// Of two listeners one is notified. The notified listener gets its tag, however short the limit is, and the other listener
+// waits until then.
 fn give_a_tag_or_none<R: Runtime, C: Clock>(rt: &R, clock: &C, limit: Duration) {
     let event = Event::with_tag(new_id(rt));
     let (told, untold) = (listen(rt, &event), listen(rt, &event));
@@ -112,7 +113,8 @@ fn gives<R: Runtime>(rt: &R, refused: u32, limit: Duration, tag: Result<u32, Wai
     check(rt, "the deadline", is_reckoned, true);
 }
 
-// The clock is read once, so the second wait has the first one's deadline. A limit too long to be represented is none.
+// The clock is read once, so the second wait has the deadline of the first wait. A limit too long to be represented is no
+// limit.
 #[test]
 fn a_refused_wait_is_tried_again_once_and_against_the_same_deadline(rt: HostRuntime) {
     let limit = Duration::from_secs(10);

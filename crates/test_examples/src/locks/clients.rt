@@ -60,7 +60,8 @@ fn additional_notifications_tell_so_many_more(rt: HostRuntime) {
     }
 }
 
-// What is taken at the second try. Right before that another client waits behind the one that tries, and that one is told.
+// What is taken at the second try. Right before that another client waits behind the client that tries, and that other client
+// is notified.
 #[derive(Drop)]
 struct ToldMeanwhile<'a, R: Wait + Clock + Clone> {
     rt: &'a R,

@@ -38,7 +38,8 @@ where
     check(rt, "whether the limit has passed", took >= limit(), true);
 }
 
-// Holds it until the other thread has given up. One that waits on is given it after twenty seconds, and so fails.
+// Holds the lock or permit until the other thread has given up. A thread that waits on is given it after twenty seconds, and so
+// fails.
 fn hold_on<G: Drop, R: Host>(rt: &R, held: G, is_over: &AtomicBool) {
     for _ in 0..20_000u32 {
         if is_over.load(Ordering::SeqCst) {
@@ -60,7 +61,7 @@ fn a_timed_lock_gives_up_at_its_deadline(rt: HostRuntime) {
     );
     check(rt, "once it is free", is_locked(rt, mutex), true);
 
-    // No listener is left: the next who listens is the first to be told.
+    // No listener is left: the next client that listens is the first to be notified.
     let held = hold(rt, mutex);
     let polled = Polled::new(rt, mutex);
     drop(held);

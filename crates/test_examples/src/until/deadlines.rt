@@ -1,4 +1,4 @@
-//! Clocks that notify when they are read, so that who waits is told at its deadline.
+//! Clocks that notify when they are read, so that a waiter is notified at its deadline.
 use crate::support::{check, new_id};
 use crate::until::{Notes, until_nth};
 use event_listener::Event;

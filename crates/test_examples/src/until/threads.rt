@@ -87,8 +87,8 @@ fn one_at_a_time_has_the_baton_and_tasks_rest(rt: HostRuntime) {
     check(&rt, "at most so many polls", polls.max(most), most);
 }
 
-// A thread makes the change and notifies, and the task of one that waits is woken. Then an attempt succeeds, which needs no
-// lock of the event, though others may still have to be notified.
+// A thread makes the change and notifies, and the task of a waiter is woken. Then an attempt succeeds, which needs no lock of
+// the event, though others may still have to be notified.
 fn who_is_woken_succeeds<A, C, R>(rt: &R, task: &MockTask, attempt: A, change: C)
 where
     A: Attempt<Output: Drop> + Drop,
@@ -128,7 +128,7 @@ where
     line.push(until).expect(rt, "room");
 }
 
-// All who wait there were woken, and are given this.
+// All waiters there were woken, and are given this.
 fn all_are_given<A, V, R>(rt: &R, task: &MockTask, line: Vec<Until<'_, A, R>>, expected: V)
 where
     A: Attempt<Output = V> + Drop,
