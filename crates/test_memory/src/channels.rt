@@ -1,4 +1,4 @@
-//! What channels leave where memory is refused: a message is in the channel or comes back, and is never lost.
+//! What channels leave where memory is refused: a message is in the channel or is returned, and is never lost.
 mod leaks;
 
 use crate::support::{Answer, Runtime, all_memory, check, count_refused, leave, new_task};
@@ -117,7 +117,7 @@ fn a_send_that_cannot_wait_hands_back(rt: HostRuntime) {
     are_left(rt, &receiver, &[0, 1]);
 }
 
-// A first send makes a place in the queue, for which it has time. One that waits there needs no memory.
+// A first send makes a place in the queue, for which it has time. A send that waits there needs no memory.
 #[test]
 fn a_send_at_a_place_that_is_there_waits(rt: HostRuntime) {
     let rt = &rt;
@@ -182,7 +182,7 @@ fn an_item_that_cannot_be_waited_for_is_an_error(rt: HostRuntime) {
     drop(hog);
 }
 
-// Two polls make places in the queue. A receive that waits there needs no memory, nor does one that takes such a place.
+// Two polls make places in the queue. A receive that waits there needs no memory, nor does a receive that takes such a place.
 #[test]
 fn a_receive_at_a_place_that_is_there_waits(rt: HostRuntime) {
     let rt = &rt;
@@ -244,7 +244,7 @@ fn many_without_room_for_more_are_one(rt: HostRuntime) {
     }
 }
 
-// A message that was not taken in wakes nobody, and comes back.
+// A message that was not taken in wakes nobody, and is returned.
 #[test]
 fn a_send_that_finds_no_memory_hands_back(rt: HostRuntime) {
     let rt = &rt;
@@ -324,7 +324,7 @@ fn polls_clones_and_a_close_need_no_memory(rt: HostRuntime) {
     drop(hog);
 }
 
-// Nobody waits past its limit, and one that is told before its thread blocks makes nothing to park on.
+// Nobody waits past its limit, and a waiter that is notified before its thread blocks makes nothing to park on.
 #[test]
 fn calls_that_are_late_or_told_need_no_memory(rt: HostRuntime) {
     let (rt, now) = (&rt, Duration::ZERO);

@@ -1,4 +1,4 @@
-//! Events: threads that are parked, and woken by one that has no memory.
+//! Events: threads that are parked, and woken by a thread that has no memory.
 use crate::support::{Runtime, all_memory, check, new_id};
 use event_listener::{Event, IntoTagged, Listener};
 use std::io;

@@ -46,13 +46,13 @@ fn a_hand_and_its_listeners_give_the_queue_back(rt: HostRuntime) {
     comes_back(&rt, || of_a_hand(&rt));
 }
 
-// One that comes while others have the lock is given nothing in no time.
+// A newcomer that has no time to wait is given nothing while others have the lock.
 fn is_late<R: Runtime, W: Waits>(rt: &R, waits: W) {
     let given = waits.wait_timeout(Duration::ZERO).ok();
     check(rt, "late", given.map(|it| it.is_some()), Some(false));
 }
 
-// One that waits is told. It has the last share of its lock, and is dropped with it; or a guard has the last share.
+// A waiter is notified. The wait has the last share of its lock, and is dropped with it; or a guard has the last share.
 fn is_told<R: Runtime, W: Waits, G: Drop>(rt: &R, waits: W, held: G, is_given: bool) {
     let (mut waits, task) = (waits, new_task(rt));
     waits.can_be_polled();
@@ -151,7 +151,7 @@ fn a_poll_that_is_refused_keeps_no_share(rt: HostRuntime) {
     check(&rt, "shares", Arc::strong_count(&permits), 1);
 }
 
-// One that waits in a queue leaves it, and the queue goes with its lock.
+// A waiter in a queue leaves it, and the queue is freed with its lock.
 fn polls_in_vain<R: Runtime, W: Waits>(rt: &R, waits: W) {
     let mut waits = waits;
     waits.can_be_polled();

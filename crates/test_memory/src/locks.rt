@@ -148,7 +148,7 @@ fn a_polled_lock_needs_memory_for_its_slot_alone(rt: HostRuntime) {
     }
 }
 
-// Who would wait without a limit is refused.
+// A caller that would wait without a limit is refused.
 #[test]
 fn a_permit_that_is_free_needs_no_memory(rt: HostRuntime) {
     let rt = &rt;

@@ -76,7 +76,7 @@ impl<R: Runtime> Case<R> for EachIsRefused {
         let refused = count_refused(rt, &in_vain);
         check(rt, "a place", in_vain.places.get() > 0, true);
         check(rt, "a parker", in_vain.parkers.get() > 0, !is_polled);
-        // Nobody is left in the queue who would be handed it.
+        // No waiter is left in the queue to which it would be handed.
         let (task, mut waits) = (new_task(rt), kind.waits().expect(rt, "a share"));
         waits.can_be_polled();
         check(rt, refused, task.poll(&mut waits).is_pending(), true);
@@ -100,7 +100,7 @@ fn each_request_of_a_wait_for_a_lock_is_refused(rt: HostRuntime) {
     }
 }
 
-// One that waits until a moment that has passed attempts, and enters no queue.
+// A wait until a moment that has passed attempts, and joins no queue.
 fn is_late_without_memory<R: Runtime, W: Waits>(rt: &R, waits: W) {
     let now = Instant::now(rt).expect(rt, "the time");
     let hog = all_memory(rt);
@@ -113,7 +113,7 @@ fn is_late_without_memory<R: Runtime, W: Waits>(rt: &R, waits: W) {
 #[derive(Drop)]
 struct NeedsNone;
 
-// Without memory somebody is let in and woken. One that was told before its thread blocks makes nothing to park on.
+// Without memory a waiter is let in and woken. A waiter that was notified before its thread blocks makes nothing to park on.
 impl<R: Runtime> Case<R> for NeedsNone {
     fn waiters(&self) -> usize {
         2

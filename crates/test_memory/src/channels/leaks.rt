@@ -5,7 +5,7 @@ use std::sync::Wait;
 use std::time::{Clock, Duration};
 use test_support::{Changed, Ticks};
 
-// A thread makes what it parks on, and comes to its limit.
+// A thread makes what it parks on, and reaches its limit.
 fn is_late_often<R: Runtime, C: Wait + Clock + Clone>(rt: &R, clock: &C) {
     let sides = bounded::<u64, _>(clock, rt.alloc(), 1);
     let (_sender, receiver) = sides.expect(rt, "a channel");
