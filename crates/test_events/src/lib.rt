@@ -1,6 +1,7 @@
-//! Tests of events, listeners and recorded events by their public calls: what no clause says of who is told, and which wakers a
-//! poll keeps; of how listeners are made and what they show; of the lock of an event; of when a wait ends, and that a thread parks
-//! until it is woken; and of recorded events. No clause can name what a lock held: these show that a call asked the queue at all.
+//! Tests of events, listeners and recorded events by their public calls: what no clause says of which listeners are notified,
+//! and which wakers a poll keeps; of how listeners are made and what they show; of the lock of an event; of when a wait ends,
+//! and that a thread parks until it is woken; and of recorded events. No clause can name what a lock held: these show that a
+//! call asked the queue at all.
 //!
 //! | Module | What it tests |
 //! |---|---|
@@ -27,10 +28,10 @@
 //! case makes its calls on, and `recorded` that of a recorded event, which each test closes with all its hands: their notes
 //! have to be those of its record.
 //!
-//! The machine may be busy, so "soon" means that of up to twenty waits of 50 milliseconds one ends within 87. No contract
-//! says that a thread wakes: the tests show that it woke within ten seconds here. One that is not woken ends at a limit of
-//! 20 seconds, and fails. A wait that should end at once and does not, or that has no limit, fails at the limit that the
-//! toolchain has for every test. Threads that race do so for two seconds.
+//! The machine may be busy, so "soon" means that of up to twenty waits of 50 milliseconds one ends within 87. No contract says
+//! that a thread wakes: the tests show that it woke within ten seconds here. A thread that is not woken ends at a limit of 20
+//! seconds, and fails. A wait that should end at once and does not, or that has no limit, fails at the limit that the toolchain
+//! has for every test. Threads that race do so for two seconds.
 //!
 //! What is calls and answers is text, in the language of `calls`, which costs the prover nothing. Any other test of both kinds
 //! is a generic function. To be proved quickly, calls that have to succeed end in `expect`, in helpers: a `?`, or a condition of

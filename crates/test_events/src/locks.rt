@@ -2,9 +2,9 @@
 //! the queue of one event at once.
 //!
 //! A tag is made under the lock of its event, so the lock is held while the function of a notification runs. A call that
-//! wrongly waits for that lock does not return, and its test fails at the limit that the toolchain has for every test.
-//! Where two threads meet, the one that makes the tag sleeps for 50 milliseconds, in which the other one makes its call.
-//! What a listener's own calls do under the lock, clauses say.
+//! wrongly waits for that lock does not return, and its test fails at the limit that the toolchain has for every test. Where
+//! two threads meet, the thread that makes the tag sleeps for 50 milliseconds, in which the other thread makes its call. What a
+//! listener's own calls do under the lock, clauses say.
 use crate::rows;
 use crate::support::{Runtime, check, discard, listen_as, new_event, new_task, sharing, shows};
 use event_listener::{Event, EventIds, IntoNotification, IntoTagged, ListenError, Listener};

@@ -86,8 +86,8 @@ fn notify_for_long<R: Runtime>(
     event.notify(rt, 1.tag_with(tag))
 }
 
-// A thread waits for the lock, which another one has for long. One that looked at it again and again would use far more than ten
-// milliseconds, on a busy machine too.
+// A thread waits for the lock, which another one has for long. A thread that looked at the lock again and again would use far
+// more than ten milliseconds, on a busy machine too.
 fn use_no_time<R: Runtime + CpuClock + Threads + Sync>(rt: &R, event: &Event<u32>) {
     let (_told, meeting) = (sharing(rt, event), &Barrier::new(2));
     let waits = || {

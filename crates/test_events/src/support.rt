@@ -36,7 +36,7 @@ pub fn new_id<R: Abort>(rt: &R) -> EventId {
     EventIds::new().next().expect(rt, "an identity")
 }
 
-/// A new event, the only one of its source.
+/// Makes a new event, the only event of its source.
 pub fn new_event<T, R: Abort>(rt: &R) -> Event<T> {
     Event::with_tag(new_id(rt))
 }

@@ -121,7 +121,7 @@ fn a_tag_that_cannot_be_cloned_is_passed_on(rt: HostRuntime) {
     pass_on_the_first(&rt, &new_event(&rt));
 }
 
-// Of three who wait the first parks its thread. That is woken, though the second is refused a tag. Later notifications
+// Of three waiters the first parks its thread. That thread is woken, though the second is refused a tag. Later notifications
 // begin with the second.
 fn skips_nobody<R: Runtime + Threads + Sync>(rt: &R, event: &Event<Refusing>) {
     let next = || sharing(rt, event);

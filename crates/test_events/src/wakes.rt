@@ -1,4 +1,4 @@
-//! Calls that wake who waits next, be that a task or a thread that parks, and one that does not. `waits` has those of
+//! Calls that wake the next waiter, be that a task or a thread that parks, and a call that does not. `waits` has those of
 //! events and of listeners for threads.
 use crate::support::{Runtime, check, listen_as, new_event, new_task, sharing};
 use calls::Reply;
@@ -9,7 +9,7 @@ use std::thread::{self, Threads};
 use std::time::{Duration, Instant};
 use test_support::{Borrowing, ListenerKind, Sharing, waker_of};
 
-// The one that waits next is a task, and this call notifies it.
+// The next waiter is a task, and this call notifies it.
 fn wakes_a_task<R: Runtime, F: FnOnce()>(rt: &R, event: &Event<u32>, call: F)
     requires { F.pre call }
 {
@@ -22,7 +22,7 @@ fn wakes_a_task<R: Runtime, F: FnOnce()>(rt: &R, event: &Event<u32>, call: F)
     check(rt, "its tag", next.wait().ok(), Some(7));
 }
 
-// It is a thread that parks. One that is not woken is told at its limit, too late.
+// The next waiter is a thread that parks. A thread that is not woken is notified at its limit, too late.
 fn wakes_a_thread<R: Runtime + Threads + Send + Sync, F: FnOnce() + Send>(
     rt: &R,
     event: &Event<u32>,
@@ -57,7 +57,8 @@ fn a_hand_that_notifies_wakes_a_task_and_a_thread(rt: HostRuntime) {
     wakes_a_thread(rt, event, || hand_notifies(rt, event));
 }
 
-// Two listen by a hand, which ends the one that is told. Dropped, that one lets the next know; discarded, it does not.
+// Two listeners listen by a hand, which ends the notified listener. Dropped, that listener notifies the next; discarded, it
+// does not.
 fn hand_ends_one<R: Runtime>(rt: &R, drops: bool) {
     let (event, task) = (new_event(rt), new_task(rt));
     let mut hand = event.hand(rt, rt.alloc()).expect(rt, "a hand");
@@ -83,7 +84,7 @@ fn a_hand_drops_a_listener_or_discards_it(rt: HostRuntime) {
     hand_ends_one(&rt, false);
 }
 
-// One that is told is dropped.
+// A notified listener is dropped.
 fn told_and_dropped<'ev, K, L, R>(rt: &R, event: &'ev Event<u32>)
 where
     K: ListenerKind<'ev, u32, R, Listener = L>,

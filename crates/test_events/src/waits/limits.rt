@@ -165,8 +165,8 @@ fn time_of<S: Trial>(trial: &S, wait: WaitCall) -> Duration {
     taken
 }
 
-// Whether a wait parks once, and ends well before twice its time. One that looked at the time again and again would read
-// its clock thousands of times.
+// Whether a wait parks once, and ends well before twice its time. A wait that looked at the time again and again would read its
+// clock thousands of times.
 fn parks_once<S: Trial>(trial: &S, wait: WaitCall) -> bool {
     let stage = trial.stage();
     stage.set(Exact);

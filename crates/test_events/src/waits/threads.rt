@@ -108,7 +108,7 @@ fn eight_hands_on_one_record(rt: HostRuntime) {
 // How often a thread notifies at most until somebody is told.
 const TRIES: u32 = 100_000;
 
-// How long it waits at most then. One that is not woken is late, and fails.
+// How long the thread waits at most then. A thread that is not woken is late, and fails.
 fn limit() -> Duration {
     Duration::from_secs(10)
 }

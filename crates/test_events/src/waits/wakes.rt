@@ -13,8 +13,8 @@ fn a_while() -> Duration {
     Duration::from_millis(100)
 }
 
-// The listener is told, and its thread parks until then. One that looked again and again would use more than a tenth of the
-// time, on a busy machine too, or note each look.
+// The listener is told, and its thread parks until then. A thread that looked again and again would use more than a tenth of
+// the time, on a busy machine too, or note each look.
 fn parks<S: Trial>(trial: &S, listener: S::Listener, wait: WaitCall, limit: Duration) {
     let rt = trial.rt();
     let before = rt.thread_cpu_time().expect(rt, "the processor time");
