@@ -10,15 +10,15 @@
 //! - [`program`]: how a program over these threads ends, as `program_mutex` does: what it prints, and its status.
 //! - [`tagged`]: default and additional notifications with tags, each of which notifies one listener at most and does
 //!   not fail.
-//! - [`timed`]: a wait against a deadline, over any kind of listener; a failed wait is retried. One on a finished
-//!   listener fails, and one that fails for memory returns the same listener.
+//! - [`timed`]: a wait against a deadline, over any kind of listener; a failed wait is retried. A wait on a finished
+//!   listener fails, and a wait that fails for memory returns the same listener.
 //! - [`relayed`]: errors of waits that `?` propagates.
 //! - [`polled`]: a tag that a task awaits; a future over two events, whose pending poll has registered with both.
-//! - [`desk`]: a desk that one at a time sits at: a guard that notifies in its drop, and a future that tries, listens
+//! - [`desk`]: a desk at which one visitor at a time sits: a guard that notifies in its drop, and a future that tries, listens
 //!   and polls in a loop, whose pending poll has registered.
 //! - [`recorded_flag`]: a flag over a recorded event, for which each thread waits with a hand of its own, which it
 //!   tells from others; closed with `Ok`, the notes of each hand are entries of its record.
-//! - [`heard`]: a thread that listens, tells another one, which notifies all, and learns from it. That its listener was
+//! - [`heard`]: a thread that listens, tells another thread, which notifies all, and learns from it. That its listener was
 //!   notified is proved, whatever other threads do: [HISTORY.md](../../../docs/HISTORY.md) says why.
 //! - [`passed`]: a listener that is notified and dropped, and the next one, which hears it, whatever other threads do.
 //! - [`race`]: the thread of the first hand sets such a flag, and those of all others wait for it. Its record has
@@ -26,10 +26,10 @@
 //! - [`record_table`]: a record as a table of hand, call and reply.
 //! - [`until`]: over `event_until`, a gate, the latest value, and a baton.
 //!
-//! Only tested: which listener gets which tag; that setting a flag notifies all who listen; that waits end, and a
+//! Only tested: which listener gets which tag; that setting a flag notifies all listeners; that waits end, and a
 //! second wait has the deadline of the first; that a flag is seen which is set between the first look and `listen`, and
 //! that the recorded listener dropped then stands in the record without a hand; that an awaited tag comes, either event
-//! wakes the future's task, and a second poll wakes no task; that those who wait for the desk sit one after another;
+//! wakes the future's task, and a second poll wakes no task; that the waiters for the desk sit one after another;
 //! that a listener which an error held propagates its notification; that each listener of a race ends by its tag or is
 //! dropped; whose fault is returned; what a program prints, the lines of a table and the texts of errors.
 #![tactic(auto)]
