@@ -15,7 +15,7 @@ const FEW: usize = 2;
 const MOMENT: u64 = 3;
 
 /// Does what the words of the command line ask for, and answers whether they asked for something.
-pub fn answer<R: Runtime + Env, W: Write>(rt: &R, output: &mut W) -> Result<bool> {
+pub fn answer<R: Runtime + Drop + Env, W: Write>(rt: &R, output: &mut W) -> Result<bool> {
     let mut words = Vec::new(rt.alloc());
     for word in env::args(rt)? {
         words.push(word)?;
@@ -49,7 +49,7 @@ fn read(words: &[String]) -> Option<(&str, usize, u64)> {
     Some((name, n, rounds))
 }
 
-fn run_all<R: Runtime, W: Write>(rt: &R, output: &mut W) -> Result<()> {
+fn run_all<R: Runtime + Drop, W: Write>(rt: &R, output: &mut W) -> Result<()> {
     for name in NAMES.split(' ') {
         let Measured { done, of, .. } = measure(name, rt, FEW, MOMENT)?;
         writeln!(output, "{name}/{FEW}: {done} {of}")?;

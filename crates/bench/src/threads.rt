@@ -4,6 +4,7 @@ use crate::run::{Run, Runtime};
 use anyhow::Result;
 use event_listener::{Event, EventIds, Listener};
 use event_locks::{Barrier, Mutex, RwLock, Semaphore};
+use std::sync::Arc;
 use std::sync::atomic::{AtomicU64, Ordering};
 
 pub fn lock_mutex<R: Runtime>(run: &mut Run<'_, R>) -> Result<()> {
@@ -58,6 +59,39 @@ pub fn write<R: Runtime>(run: &mut Run<'_, R>) -> Result<()> {
         true
     });
     run.together(n, n, &work)
+}
+
+/// One thread reads in a free lock, by a guard that has a share of the lock.
+pub fn read_arc<R: Runtime + Drop>(run: &mut Run<'_, R>) -> Result<()> {
+    let (rt, rounds) = (run.rt, run.rounds);
+    let lock = &Arc::new(rt.alloc(), RwLock::new(rt.alloc(), 0u64))?;
+    let work = repeat!({
+        let Ok(rt) = rt.clone() else {
+            return false;
+        };
+        let Ok(guard) = RwLock::try_read_arc(lock, rt) else {
+            return false;
+        };
+        guard.is_some()
+    });
+    run.alone(rounds, 1, work)
+}
+
+/// One thread writes in a free lock, by a guard that has a share of the lock.
+pub fn write_arc<R: Runtime + Drop>(run: &mut Run<'_, R>) -> Result<()> {
+    let (rt, rounds) = (run.rt, run.rounds);
+    let lock = &Arc::new(rt.alloc(), RwLock::new(rt.alloc(), 0u64))?;
+    let work = repeat!({
+        let Ok(rt) = rt.clone() else {
+            return false;
+        };
+        let Ok(Some(mut count)) = RwLock::try_write_arc(lock, rt) else {
+            return false;
+        };
+        *count = count.wrapping_add(1);
+        true
+    });
+    run.alone(rounds, 1, work)
 }
 
 pub fn meet<R: Runtime>(run: &mut Run<'_, R>) -> Result<()> {

@@ -9,8 +9,8 @@ pub const NAMES: &str = "listen_drop burst burst_listen burst_poll_pending burst
     is_notified total_listeners listen_drop_stack burst_stack churn_stack remove_fifo_stack \
     listen_drop_recorded burst_recorded churn_recorded listen_drop_list burst_list churn_list \
     remove_fifo_list remove_middle_list base_waker ping_pong handover mutex_lock mutex_try semaphore \
-    semaphore_3 read write barrier channel_1 channel_128 channel_unbounded channel_alone \
-    channel_tasks longest_wait smallest_share seldom";
+    semaphore_3 read write read_arc write_arc barrier channel_1 channel_128 channel_unbounded \
+    channel_alone channel_tasks longest_wait smallest_share seldom";
 
 /// How many rounds a run of a workload has that is asked for no number: as many as take some hundredths of a second. Where
 /// threads share a mutex, so many milliseconds.
@@ -35,7 +35,7 @@ pub fn rounds_of(name: &str, n: usize) -> u64 {
 }
 
 /// Runs the workload once.
-pub fn measure<R: Runtime>(name: &str, rt: &R, n: usize, rounds: u64) -> Result<Measured> {
+pub fn measure<R: Runtime + Drop>(name: &str, rt: &R, n: usize, rounds: u64) -> Result<Measured> {
     let mut run = Run::new(rt, name, n, rounds);
     if matches!(name, "longest_wait" | "smallest_share" | "seldom") {
         return fairness::measure(&run);
@@ -44,7 +44,7 @@ pub fn measure<R: Runtime>(name: &str, rt: &R, n: usize, rounds: u64) -> Result<
     Ok(run.measured())
 }
 
-fn run_timed<R: Runtime>(run: &mut Run<'_, R>) -> Result<()> {
+fn run_timed<R: Runtime + Drop>(run: &mut Run<'_, R>) -> Result<()> {
     match run.name {
         "base_waker" => acts::make_wakers(run),
         "ping_pong" => threads::ping_pong(run),
@@ -55,6 +55,8 @@ fn run_timed<R: Runtime>(run: &mut Run<'_, R>) -> Result<()> {
         "semaphore_3" => threads::acquire(run, 3),
         "read" => threads::read(run),
         "write" => threads::write(run),
+        "read_arc" => threads::read_arc(run),
+        "write_arc" => threads::write_arc(run),
         "barrier" => threads::meet(run),
         "channel_1" => channels::pass(run, Some(1)),
         "channel_128" => channels::pass(run, Some(128)),
