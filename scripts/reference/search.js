@@ -12,11 +12,20 @@ const entries = (window.ENTRIES || []).map((it) => ({
   head: words(`${it[2]} ${it[4]}`),
   text: words(it[5]),
 }));
+// A call has the words of its type's first sentence, too: `wait_timeout` of a Lock is found by `mutex`, of which it says nothing.
+const types = new Map(entries.filter((it) => !it.link.includes("#")).map((it) => [it.link, it]));
+for (const it of entries) {
+  const type = types.get(it.link.split("#")[0]);
+  if (type && type !== it && it.kind !== "definition") it.text = it.text.concat(type.head);
+}
 // Words that users bring, and those of names and texts here.
 const ALSO = {
   several: "many", many: "count", number: "count many total", length: "len", size: "len", limit: "timeout deadline", time: "timeout",
   own: "arc", owned: "arc", shared: "arc", keep: "arc", keeps: "arc", await: "future", async: "future", fence: "relaxed",
   condvar: "monitor", free: "available", remove: "discard", cancel: "discard", replace: "force", drop: "forget",
+  second: "timeout", seconds: "timeout", become: "upgrade", becomes: "upgrade", upgradable: "upgrade", exactly: "additional",
+  lazy: "once", initialize: "init", backpressure: "send", pressure: "send", disconnected: "closed", either: "select whichever",
+  race: "select whichever", merge: "select whichever", select: "whichever", monitor: "condition",
 };
 // Words that say nothing of a call, unless nothing else is looked for.
 const SKIPPED = new Set(
