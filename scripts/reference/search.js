@@ -25,15 +25,16 @@ const ALSO = {
   condvar: "monitor", free: "available", remove: "discard", cancel: "discard", replace: "force", drop: "forget",
   second: "timeout", seconds: "timeout", become: "upgrade", becomes: "upgrade", upgradable: "upgrade", exactly: "additional",
   lazy: "once", initialize: "init", backpressure: "send", pressure: "send", disconnected: "closed", either: "select whichever",
-  race: "select whichever", merge: "select whichever", select: "whichever", monitor: "condition",
+  race: "select whichever", merge: "select whichever", select: "whichever", monitor: "condition", concurrency: "permits",
 };
 // Words that say nothing of a call, unless nothing else is looked for.
 const SKIPPED = new Set(
   "a an and are at be by can do does for from get how i if in is it its of on one or that the then to want what which who with without".split(" "),
 );
-// What a kind counts for: whoever looks for a call wants few variants, and fewer definitions. What a module has stands behind types, and
-// of a trait the trait itself tells more than what implements it, whose kind is `call of` it.
-const KINDS = { constant: 0.7, law: 0.7, variant: 0.7, field: 0.7, definition: 0.45 };
+// What a kind counts for: whoever looks for a call wants few variants, and fewer definitions; and the name of a recipe is a sentence,
+// of which each word counts as a name. What a module has stands behind types, and of a trait the trait itself tells more than what
+// implements it, whose kind is `call of` it.
+const KINDS = { constant: 0.7, law: 0.7, variant: 0.7, field: 0.7, recipe: 0.8, definition: 0.45 };
 let chosen = 0;
 
 function words(text) {
