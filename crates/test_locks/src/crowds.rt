@@ -11,8 +11,8 @@ use event_word::{Kept, Room, Word};
 use futures::test::MockTask;
 use std::alloc::Global;
 use std::mem;
-use std::sync::Arc;
 use std::sync::atomic::{AtomicU64, Ordering};
+use std::sync::{Arc, Wait};
 use test_kinds::Waits;
 use test_support::Runtime;
 
@@ -61,6 +61,12 @@ impl Kept for Crowd<'_> {
     ghost promises = { λ _ _ _. tt };
 }
 
+// Takes the state out and puts it back, which wakes the crowd.
+fn take_and_put_back<R: Wait>(rt: &R, word: &Word<Crowd<'_>, ()>) {
+    let (_, held) = word.take(rt);
+    held.put_back(rt);
+}
+
 // The state is out three times, with none, eight and sixteen tasks woken.
 #[test]
 fn a_few_are_woken_at_a_time(rt: HostRuntime) {
@@ -82,8 +88,7 @@ fn a_few_are_woken_at_a_time(rt: HostRuntime) {
         noted: &noted,
     };
     let word = Word::new(0, crowd, ());
-    let (_, held) = word.take(&rt);
-    held.put_back(&rt);
+    take_and_put_back(&rt, &word);
     check(
         &rt,
         "woken each time that it was out",
