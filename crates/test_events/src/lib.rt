@@ -13,7 +13,6 @@
 //! | `making` | the macro `listener!`; slots; a refused clone; what is shown; what threads may share; listeners that outlive their event |
 //! | `order`, as text | in which order tasks wake on a recorded event; 2,000 listeners on one event of each kind: how many are notified and in which order, and what the event says then |
 //! | `records` | more hands than memory holds; hands of other events; each call of a recorded state succeeds |
-//! | `history` | a state under a lock of `event_history`, below events: threads that meet add in one history, one that sleeps for the state is woken, a hand at rest is shared |
 //! | `waits::limits` | a told listener gives its tag at once, without parking; a timed wait parks until its limit, and ends no earlier and soon after it, by clocks that are slow, go back, fail, can't be read or notify; a task that polls is woken only once its listener is told, and a finished listener does not wait |
 //! | `waits::wakes` | a notification and the drop of a told listener wake parked threads; a thread is told before it looks for its listener, before it parks, as it does so, or after |
 //! | `waits::threads` | eight threads with a hand each make one record, which has each of their calls and of their drops once; two threads tell each other by two recorded events |
@@ -38,8 +37,6 @@
 //! several parts, is a branch at which every listener alive is dropped.
 #![tactic(auto)]
 
-#[cfg(test)]
-mod history;
 #[cfg(test)]
 mod locks;
 #[cfg(test)]

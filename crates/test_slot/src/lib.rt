@@ -11,10 +11,13 @@
 //! | `tests` | readers together, a writer alone, who closes it; four threads that write in turn, and sleep till they may; parking; the owner's `&mut`; the tally out with one at a time, and what four threads count; guards that keep their lock by an `Arc` |
 //! | `once` | a cell that is set once: who wins, what all see, and that its value is dropped once |
 //! | `words` | a word of `event_word`, over such a slot: threads that meet there while another thread has its state out |
+//! | `history` | a state under a lock of `event_history`, over such a slot: threads that meet add in one history, a thread that sleeps for the state is woken, a hand at rest is shared |
 #![tactic(auto)]
 
 #[cfg(test)]
 mod guard;
+#[cfg(test)]
+mod history;
 #[cfg(test)]
 mod lock;
 #[cfg(test)]
