@@ -121,7 +121,7 @@ module _ {W : Type 0} where
           serial = omega arith;
         })
 
-    pub turns-joined : (starves : Bool) (key : Key) (old : State W) (before : C) (new : State W) (after : C) → Joins exchanged starves key old before new after → KeepsTurns old new
+    pub turns-joined : (starves : Option ℕ) (key : Key) (old : State W) (before : C) (new : State W) (after : C) → Joins exchanged starves key old before new after → KeepsTurns old new
     turns-joined starves key old before new after step = record {
       turns = λ other given some. same_turn (lookup (is_key other) new.queue.waiting) (lookup (is_key other) old.queue.waiting)
           (λ stored found.
@@ -133,7 +133,7 @@ module _ {W : Type 0} where
         later : old.queue.next_serial ≤ new.queue.next_serial
         later = omega (arith, ap (λ (q : Queue (Unit {0}) (Queued W)). q.next_serial) step.queue.queue)
 
-    pub has_joined : (starves : Bool) (key : Key) (old : State W) (before : C) (new : State W) (after : C) → Joins exchanged starves key old before new after → HasJoined key old new
+    pub has_joined : (starves : Option ℕ) (key : Key) (old : State W) (before : C) (new : State W) (after : C) → Joins exchanged starves key old before new after → HasJoined key old new
     has_joined starves key old before new after step = record {
       turn =
           let waiter : Queued W = record { task = step.task; turn = next_turn old } in

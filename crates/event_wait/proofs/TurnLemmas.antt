@@ -1,7 +1,7 @@
 -- Each that waits keeps its turn, and those that starve are in the queue.
 use Rattle.std.proofs.Common.{◌≡◌, ℕ, ◌+◌, ◌-◌, ◌<◌, ◌≤◌, Bool, true, false, ◌||◌, not, List, [], ◌∷◌, ◌++◌, length, drop, refl, sym, ap, ◌∙◌, subst, arith, zero, suc, Option, Some, None, unwrap_or, if◌then◌else◌, length-append, length-drop}
 use Rattle.std.specs.List.{AllByRecursion}
-use Rattle.std.specs.Map.{lookup, remove_entry, set_value}
+use Rattle.std.specs.Map.{keys_of, lookup, remove_entry, set_value}
 use Rattle.std.proofs.lemmas.Bool.{eqb-true, and_parts, cond_both}
 use Rattle.std.proofs.lemmas.Map.{length-set_value}
 use Rattle.event_queue.specs.declared.key.Key.{Key}
@@ -16,6 +16,8 @@ use Rattle.event_queue.specs.Register.{OnNotified, after_storing}
 use Rattle.event_queue.proofs.QueueLemmas.{IsAbsent-none, rises_along, order_of-push, order_of-after_storing}
 use Rattle.event_wait.specs.Line.{HasLeft, IsNotInUnlessWaits, TellsUpTo, told_anew}
 use Rattle.event_wait.specs.FairQueue.{State, is_among, AllDiffer, HasTurnFrom, HaveTurnsFrom, IsFairQueue, Joins, StoresInTurn, WaitsOn, next_turn}
+use Rattle.event_wait.specs.Starving.{Starving, but, counted_in, less_forborne}
+use Rattle.event_wait.proofs.StarvingLemmas.{keys-but, keys-counted_in, keys-less_forborne, joined_keys}
 use Rattle.event_wait.specs.declared.fair_queue.Queued.{Queued}
 
 pub some_is : {X : Type 0} (x y : X) → Some x ≡ Some y → x ≡ y
@@ -184,29 +186,47 @@ module _ {W : Type 0} where
 
   -- one has left, told or not
   pub line-left : (key : Key) (old new : State W) → HasLeft key old.queue new.queue → length new.queue.told + length new.queue.waiting ≤ length old.queue.told + length old.queue.waiting
-      → length new.queue.told ≤ length old.queue.told → new.starving ≡ without key old.starving → new.came ≡ old.came → IsFairQueue old → IsFairQueue new
+      → length new.queue.told ≤ length old.queue.told → new.starving ≡ but (Some key) old.starving → new.came ≡ old.came → IsFairQueue old → IsFairQueue new
   line-left key old new step fewer told starving came line = record {
     turns =
         let turns = turns-without (is_key key) (old.came + length old.queue.told) old.queue.waiting line.turns in
         rw step.waiting (turns-sooner (new.came + length new.queue.told) (old.came + length old.queue.told) (remove_entry (is_key key) old.queue.waiting) (omega (arith, told, came)) turns);
-    among = rw (step.order, starving) (all_among-without key (order_of old.queue) old.starving line.among);
-    differ = rw starving (differ-without key old.starving line.differ);
+    among = rw (step.order, starving, keys-but key old.starving) (all_among-without key (order_of old.queue) (keys_of old.starving) line.among);
+    differ = rw (starving, keys-but key old.starving) (differ-without key (keys_of old.starving) line.differ);
     counted = omega (arith, fewer, came, step.serial, line.counted);
   }
 
   -- a notified one has come
   pub line-came : (key : Key) (old new : State W) → length new.queue.told + 1 ≡ length old.queue.told → new.queue.waiting ≡ old.queue.waiting → order_of new.queue ≡ without key (order_of old.queue)
-      → new.queue.next_serial ≡ old.queue.next_serial → new.starving ≡ without key old.starving → new.came ≡ old.came + 1 → IsFairQueue old → IsFairQueue new
+      → new.queue.next_serial ≡ old.queue.next_serial → new.starving ≡ but (Some key) old.starving → new.came ≡ old.came + 1 → IsFairQueue old → IsFairQueue new
   line-came key old new told waiting order serial starving came line = record {
     turns =
         let same : new.came + length new.queue.told ≡ old.came + length old.queue.told = omega (arith, told, came) in
         rw (same, waiting) line.turns;
-    among = rw (order, starving) (all_among-without key (order_of old.queue) old.starving line.among);
-    differ = rw starving (differ-without key old.starving line.differ);
+    among = rw (order, starving, keys-but key old.starving) (all_among-without key (order_of old.queue) (keys_of old.starving) line.among);
+    differ = rw (starving, keys-but key old.starving) (differ-without key (keys_of old.starving) line.differ);
     counted =
         let as_many : length new.queue.waiting ≡ length old.queue.waiting = ap (λ (es : List (Key × Option (Queued W))). length es) waiting in
         omega (arith, told, as_many, came, serial, line.counted);
   }
+
+  -- one was struck off that waits on
+  pub line-struck : (key : Key) (old new : State W) → new.queue ≡ old.queue → new.starving ≡ but (Some key) old.starving → new.came ≡ old.came → IsFairQueue old → IsFairQueue new
+  line-struck key old new queue starving came line = record {
+    turns = rw (queue, came) line.turns;
+    among = rw (queue, starving, keys-but key old.starving) (All-filter (λ k. is_among (order_of old.queue) k ≡ true) (λ other. not (is_key key other)) (keys_of old.starving) line.among);
+    differ = rw (starving, keys-but key old.starving) (differ-without key (keys_of old.starving) line.differ);
+    counted = rw (queue, came) line.counted;
+  }
+
+  -- the first that starves is forborne with for one fewer
+  pub line-forborne : (old new : State W) → new ≡ record old { starving = less_forborne old.starving } → IsFairQueue old → IsFairQueue new
+  line-forborne old new is line = subst IsFairQueue (sym is) (record {
+    turns = line.turns;
+    among = rw (keys-less_forborne old.starving) line.among;
+    differ = rw (keys-less_forborne old.starving) line.differ;
+    counted = line.counted;
+  })
 
   module _ {C : Type 0} (exchanged : C → Option W → W → C → Type 0) where
     -- one waits on: it had a turn, and has kept it
@@ -244,8 +264,8 @@ module _ {W : Type 0} where
         })
 
     -- a newcomer waits at the end
-    pub joins : (starves : Bool) (key : Key) (old : State W) (before : C) (new : State W) (after : C) → JoinsWithTask (StoresInTurn exchanged (next_turn old)) old.queue before key new.queue after
-        → new.starving ≡ (if starves then old.starving ++ key ∷ [] else old.starving) → new.came ≡ old.came → IsQueue old.queue → Joins exchanged starves key old before new after
+    pub joins : (starves : Option ℕ) (key : Key) (old : State W) (before : C) (new : State W) (after : C) → JoinsWithTask (StoresInTurn exchanged (next_turn old)) old.queue before key new.queue after
+        → new.starving ≡ counted_in key starves old.starving → new.came ≡ old.came → IsQueue old.queue → Joins exchanged starves key old before new after
     joins starves key old before new after step starving came queue = record {
       task = step.task.task;
       made = step.made.made;
@@ -263,14 +283,14 @@ module _ {W : Type 0} where
             absurd (omega (arith, below, step.joins.serial))
         by_test false apart = apart
 
-    pub line-joined : (starves : Bool) (key : Key) (old : State W) (before : C) (new : State W) (after : C) → Joins exchanged starves key old before new after → IsQueue old.queue → IsFairQueue old → IsFairQueue new
+    pub line-joined : (starves : Option ℕ) (key : Key) (old : State W) (before : C) (new : State W) (after : C) → Joins exchanged starves key old before new after → IsQueue old.queue → IsFairQueue old → IsFairQueue new
     line-joined starves key old before new after step queue line =
-        let is : new ≡ record { queue = at_end; starving = if starves then old.starving ++ key ∷ [] else old.starving; came = old.came } =
+        let is : new ≡ record { queue = at_end; starving = counted_in key starves old.starving; came = old.came } =
         λ i. record { queue = step.queue.queue i; starving = step.starving i; came = step.came i } in
         subst IsFairQueue (sym is) (record {
           turns = turns-last (old.came + length old.queue.told) old.queue.waiting key waiter (omega arith) line.turns;
-          among = rw (order_of-push old.queue key (Some waiter)) (among starves);
-          differ = differ starves;
+          among = rw (order_of-push old.queue key (Some waiter), keys-counted_in key starves old.starving) (among starves);
+          differ = rw (keys-counted_in key starves old.starving) (differ starves);
           counted = omega (arith, length-append old.queue.waiting ((key, Some waiter) ∷ []), line.counted);
         })
       where
@@ -284,11 +304,11 @@ module _ {W : Type 0} where
           spare = new.queue.spare;
         }
 
-        among : (b : Bool) → AllByRecursion (λ k. is_among (order_of old.queue ++ key ∷ []) k ≡ true) (if b then old.starving ++ key ∷ [] else old.starving)
-        among true = All-append (λ k. is_among (order_of old.queue ++ key ∷ []) k ≡ true) old.starving (key ∷ [])
-            (all_among-more (order_of old.queue) (key ∷ []) old.starving line.among) (among-last (order_of old.queue) key, tt)
-        among false = all_among-more (order_of old.queue) (key ∷ []) old.starving line.among
+        among : (b : Option ℕ) → AllByRecursion (λ k. is_among (order_of old.queue ++ key ∷ []) k ≡ true) (joined_keys key b (keys_of old.starving))
+        among (Some n) = All-append (λ k. is_among (order_of old.queue ++ key ∷ []) k ≡ true) (keys_of old.starving) (key ∷ [])
+            (all_among-more (order_of old.queue) (key ∷ []) (keys_of old.starving) line.among) (among-last (order_of old.queue) key, tt)
+        among None = all_among-more (order_of old.queue) (key ∷ []) (keys_of old.starving) line.among
 
-        differ : (b : Bool) → AllDiffer (if b then old.starving ++ key ∷ [] else old.starving)
-        differ true = differ-last old.starving key (none_is-new (order_of old.queue) old.queue.next_serial key old.starving (rises_along old.queue queue) step.queue.serial line.among) line.differ
-        differ false = line.differ
+        differ : (b : Option ℕ) → AllDiffer (joined_keys key b (keys_of old.starving))
+        differ (Some n) = differ-last (keys_of old.starving) key (none_is-new (order_of old.queue) old.queue.next_serial key (keys_of old.starving) (rises_along old.queue queue) step.queue.serial line.among) line.differ
+        differ None = line.differ

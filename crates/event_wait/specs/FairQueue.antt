@@ -1,7 +1,7 @@
 -- What a contract sees of a fair queue of those that compete: each that waits has a turn.
 use Rattle.std.specs.Prelude.{◌≡◌, ℕ, ◌+◌, ◌<◌, ◌≤◌, Bool, true, false, if◌then◌else◌, Option, Some, None, IsSome, List, [], ◌∷◌, ◌++◌, length, map}
 use Rattle.std.specs.List.{AllByRecursion, list_any}
-use Rattle.std.specs.Map.{lookup}
+use Rattle.std.specs.Map.{keys_of, lookup}
 use Rattle.event_queue.specs.declared.key.Key.{Key}
 use Rattle.event_queue.specs.declared.reply.ListenError.{ListenError}
 use Rattle.event_queue.specs.declared.reply.ListenError.TheVariants.{Memory, SerialsUsedUp}
@@ -11,13 +11,14 @@ use Rattle.event_queue.specs.Insert.{JoinsStoring, SerialsAreUsedUp}
 use Rattle.event_queue.specs.Key.{is_key, without}
 use Rattle.event_queue.specs.Queue.{Queue, IsAbsent, order_of, listeners_of, told_leaves}
 use Rattle.event_queue.specs.Register.{after_storing}
-use Rattle.event_wait.specs.Line.{woken_up_to}
+use Rattle.event_wait.specs.Line.{HasLeft, woken_up_to}
+use Rattle.event_wait.specs.Starving.{Starving, but, counted_in, less_forborne, struck_off}
 use Rattle.event_wait.specs.declared.fair_queue.Queued.{Queued}
 
--- the queue; the keys of those in it that starve; how many notified ones have come, ever
+-- the queue; the waiters in it that starve, each with how many newcomers beside the last are refused for its sake; how many notified ones have come, ever
 pub record State (W : Type 0) : Type 0 where
   pub queue : Queue (Unit {0}) (Queued W)
-  pub starving : List Key
+  pub starving : List Starving
   pub came : ℕ
 
 -- whether this key is one of these
@@ -48,8 +49,8 @@ module _ {W : Type 0} where
   pub record IsFairQueue (s : State W) : Type 0 where
     pub turns : NobodyWaitsPastItsTurn s
     -- those that starve are in the queue, notified or not
-    pub among : AllByRecursion (λ key. is_among (order_of s.queue) key ≡ true) s.starving
-    pub differ : AllDiffer s.starving
+    pub among : AllByRecursion (λ key. is_among (order_of s.queue) key ≡ true) (keys_of s.starving)
+    pub differ : AllDiffer (keys_of s.starving)
     -- whoever came or is in the queue had a serial number of its own
     pub counted : s.came + listeners_of s.queue ≤ s.queue.next_serial
 
@@ -76,7 +77,7 @@ module _ {W : Type 0} where
     pub told : IsSome (lookup (is_key key) old.queue.told)
     pub queue : new.queue ≡ told_leaves key old.queue
     pub order : order_of new.queue ≡ without key (order_of old.queue)
-    pub starving : new.starving ≡ without key old.starving
+    pub starving : new.starving ≡ but (Some key) old.starving
     pub came : new.came ≡ old.came + 1
 
   -- the turn of one that waits
@@ -104,9 +105,24 @@ module _ {W : Type 0} where
       (key : Key) (old joined : State W) → HasJoined key old joined → KeepsTurns joined now → IsSome (turn_of key now)
       → now.came ≤ old.came + listeners_of old.queue
 
+  -- one was struck off: it starves no more; if it was notified it has left the queue, and else it waits as before
+  pub record IsStruck (key : Key) (old new : State W) : Type 0 where
+    pub starving : new.starving ≡ but (Some key) old.starving
+    pub told : IsSome (lookup (is_key key) old.queue.told) → HasLeft key old.queue new.queue
+    pub untold : (IsSome (lookup (is_key key) old.queue.told) → ⊥) → new.queue ≡ old.queue
+    pub came : new.came ≡ old.came
+
+  -- a newcomer was refused for the sake of the first that starves: that one is struck off, or forborne with for one fewer
+  abbrev pub ForbearsBy : Option Key → State W → State W → Type 0
+  ForbearsBy None old new = new ≡ record old { starving = less_forborne old.starving }
+  ForbearsBy (Some key) old new = IsStruck key old new
+
+  abbrev pub Forbears : State W → State W → Type 0
+  Forbears old new = ForbearsBy (struck_off old.starving) old new
+
   -- why one could not join
-  abbrev pub CannotJoin : Bool → ListenError → State W → Type 0
-  CannotJoin starves Memory s = starves ≡ false → s.queue.spare ≡ 0
+  abbrev pub CannotJoin : Option ℕ → ListenError → State W → Type 0
+  CannotJoin starves Memory s = starves ≡ None → s.queue.spare ≡ 0
   CannotJoin starves SerialsUsedUp s = SerialsAreUsedUp s.queue
 
   module _ {C : Type 0} (exchanged : C → Option W → W → C → Type 0) where
@@ -132,10 +148,10 @@ module _ {W : Type 0} where
 
     -- a newcomer waits at the end, by a key of its own, with a task that was made of none, and is counted among those that
     -- starve if it does
-    pub record Joins (starves : Bool) (key : Key) (old : State W) (before : C) (new : State W) (after : C) : Type 0 where
+    pub record Joins (starves : Option ℕ) (key : Key) (old : State W) (before : C) (new : State W) (after : C) : Type 0 where
       pub task : W
       pub made : exchanged before None task after
       pub queue : JoinsStoring (Some (record { task = task; turn = next_turn old })) old.queue key new.queue
       pub its_own : is_among (order_of old.queue) key ≡ false
-      pub starving : new.starving ≡ (if starves then old.starving ++ key ∷ [] else old.starving)
+      pub starving : new.starving ≡ counted_in key starves old.starving
       pub came : new.came ≡ old.came

@@ -2,17 +2,18 @@
 //!
 //! A waiter that is notified has nothing yet: it *retries*, which means that it leaves the queue and attempts again; if it finds
 //! nothing it joins at the end. Each waiter has a *turn*: while it waits, no more waiters have retried in all than its turn says.
-//! A waiter that was notified and found nothing too often *starves*, until it has retried once more.
-ghost use Rattle.std.specs.Prelude.{◌≡◌, ◌+◌, ◌<◌, ◌≤◌, [], ◌∷◌, ◌++◌, length, map, true, if◌then◌else◌, vec_len, vec_capacity, IfOk, IfErr, OnOk, OnErr};
+//! A waiter that was notified and found nothing too often *starves*, until it has retried once more, or is struck off.
+ghost use Rattle.std.specs.Prelude.{◌≡◌, ◌+◌, ◌<◌, ◌≤◌, [], length, map, true, None, Some, IsSome, vec_len, vec_capacity, IfOk, IfErr, OnOk, OnErr};
 ghost use Rattle.std.specs.List.{FoldsTo};
 ghost use Rattle.event_queue.specs.Exchange.{InsertsWith, RegistersWith};
 ghost use Rattle.event_queue.specs.Insert.{IsInsertionBy};
-ghost use Rattle.event_queue.specs.Key.{without};
 ghost use Rattle.event_queue.specs.Queue.{IsQueue, listeners_of};
 ghost use Rattle.event_queue.specs.Register.{IsRegistration};
 ghost use Rattle.event_wait.specs.Line.{HasLeft, TellsUpTo, woken_up_to};
-ghost use Rattle.event_wait.specs.FairQueue.{State, CannotJoin, FewCame, HasJoined, Joins, KeepsTurns, Looks, NobodyWaitsPastItsTurn, StoresInTurn, task_of, turn_or, woken_tasks};
+ghost use Rattle.event_wait.specs.FairQueue.{State, CannotJoin, FewCame, Forbears, HasJoined, Joins, KeepsTurns, Looks, NobodyWaitsPastItsTurn, StoresInTurn, task_of, turn_or, woken_tasks};
+ghost use Rattle.event_wait.specs.Starving.{but, counted_in, refusals_for};
 
+use crate::starving::{forbear, strike_off};
 use crate::waiters;
 use event_queue::{Key, List, ListenError, RegisterResult, TaskExchange, WakeSink};
 use std::alloc::{AllocError, Global};
@@ -25,7 +26,8 @@ pub struct Queued<W> {
     pub(crate) turn: u64,
 }
 
-/// A queue of waiters in which each waiter has a turn, with the keys of the waiters that starve.
+/// A queue of waiters in which each waiter has a turn, with the waiters that starve, and for how many newcomers more each of these
+/// is forborne with.
 ///
 /// A waiter joins at the end, and is notified once it is at the front and something is free for it. A notified waiter *retries*:
 /// it leaves the queue and attempts again. The *turn* of a waiter is the number of all that have retried, and of all that are in
@@ -34,7 +36,7 @@ pub struct Queued<W> {
 #[derive(Drop)]
 pub struct FairQueue<W> {
     queue: List<(), Queued<W>>,
-    starving: Vec<Key, Global>,
+    starving: Vec<(Key, u32), Global>,
     came: u64,
 }
 
@@ -131,15 +133,15 @@ impl<W> FairQueue<W> {
 
     /// Has a newcomer wait at the end of the queue, with the task that the exchange makes, and returns its key.
     ///
-    /// The newcomer's turn is after all waiters that have retried and all that are in the queue. With `starves` the newcomer is
-    /// counted among the waiters that starve. Returns [`ListenError::Memory`] if memory runs out, and
-    /// [`ListenError::SerialsUsedUp`] if the queue has given out all its serial numbers, of which each waiter gets one; an error
-    /// changes nothing. May allocate.
+    /// The newcomer's turn is after all waiters that have retried and all that are in the queue. With a number in `starves` the
+    /// newcomer is counted among the waiters that starve, and other newcomers are refused for its sake until so many were,
+    /// beside the last. Returns [`ListenError::Memory`] if memory runs out, and [`ListenError::SerialsUsedUp`] if the queue has
+    /// given out all its serial numbers, of which each waiter gets one; an error changes nothing. May allocate.
     pub fn join<C, X: TaskExchange<W, C>>(
         &mut self,
         exchange: &X,
         on: &mut C,
-        starves: bool,
+        starves: Option<u32>,
     ) -> Result<Key, ListenError>
         ensures joins { IfOk result (λ key.
             Joins (X.exchanged exchange.now) starves key self.old on.old self.new on.new) }
@@ -152,8 +154,32 @@ impl<W> FairQueue<W> {
         let turn = turn_at_end(&self.queue, self.came);
         make_room(&mut self.starving, starves)?;
         let key = join_in_turn(&mut self.queue, turn, exchange, on)?;
-        count_in(&mut self.starving, starves, key);
+        count_in(&mut self.starving, key, starves);
         Ok(key)
+    }
+
+    /// Counts a newcomer that is refused for the sake of the first waiter that starves, and strikes that waiter off if the
+    /// newcomer is the last to be refused for it.
+    ///
+    /// A waiter that is struck off starves no more. If it was notified it leaves the queue, as if it were dropped: a caller then
+    /// has another waiter notified by [`tell`](FairQueue::tell). If it was not notified it waits on at its place. Changes nothing
+    /// if no waiter starves. So each call lowers how many newcomers may still be refused (`fewer`), and only
+    /// [`join`](FairQueue::join) raises that.
+    pub fn forbear(&mut self)
+    where
+        W: Drop,
+        ensures forbears { Forbears self.old self.new }
+        ensures fewer { 0 < length self.old.starving
+            → refusals_for self.new.starving + 1 ≤ refusals_for self.old.starving }
+        ensures turns { KeepsTurns self.old self.new }
+    {
+        let Some(key) = forbear(&mut self.starving) else {
+            return;
+        };
+        strike_off(&mut self.starving, key);
+        if self.queue.is_told_uncounted(key) {
+            waiters::leave_line(&mut self.queue, key);
+        }
     }
 
     /// Removes this waiter from the queue, and returns whether it was notified.
@@ -167,7 +193,7 @@ impl<W> FairQueue<W> {
         ensures notified { result ≡ true → length self.new.queue.told + 1
             ≡ length self.old.queue.told }
         ensures left { HasLeft key self.old.queue self.new.queue }
-        ensures starving { self.new.starving ≡ without key self.old.starving }
+        ensures starving { self.new.starving ≡ but (Some key) self.old.starving }
         ensures came { self.new.came ≡ self.old.came }
         ensures turns { KeepsTurns self.old self.new }
     {
@@ -209,20 +235,16 @@ fn turn_at_end<W>(queue: &List<(), Queued<W>>, came: u64) -> u64
     came + queue.total_listeners() as u64
 }
 
-// Removes this key from those that starve, if it is among them.
-fn strike_off(starving: &mut Vec<Key, Global>, key: Key)
-    ensures { starving.new.items ≡ without key starving.old.items }
-{
-    starving.retain(|other| key != *other);
-}
-
 // Makes room for one more among those that starve, if the newcomer starves.
-fn make_room(starving: &mut Vec<Key, Global>, starves: bool) -> Result<(), ListenError>
+fn make_room(
+    starving: &mut Vec<(Key, u32), Global>,
+    starves: Option<u32>,
+) -> Result<(), ListenError>
     ensures kept { starving.new.items ≡ starving.old.items }
-    ensures room { OnOk result (starves ≡ true → vec_len starving.new < vec_capacity starving.new) }
-    ensures refused { IfErr result (λ error. (starves ≡ true) × (error ≡ ListenError.Memory)) }
+    ensures room { OnOk result (IsSome starves → vec_len starving.new < vec_capacity starving.new) }
+    ensures refused { IfErr result (λ error. IsSome starves × (error ≡ ListenError.Memory)) }
 {
-    if !starves {
+    if starves.is_none() {
         return Ok(());
     }
     match starving.reserve(1) {
@@ -232,13 +254,12 @@ fn make_room(starving: &mut Vec<Key, Global>, starves: bool) -> Result<(), Liste
 }
 
 // Counts this key among those that starve, if the newcomer does.
-fn count_in(starving: &mut Vec<Key, Global>, starves: bool, key: Key)
-    requires { starves ≡ true → vec_len starving.old < vec_capacity starving.old }
-    ensures { starving.new.items
-        ≡ (if starves then starving.old.items ++ key ∷ [] else starving.old.items) }
+fn count_in(starving: &mut Vec<(Key, u32), Global>, key: Key, starves: Option<u32>)
+    requires { IsSome starves → vec_len starving.old < vec_capacity starving.old }
+    ensures { starving.new.items ≡ counted_in key starves starving.old.items }
 {
-    if starves {
-        starving.push_reserved(key);
+    if let Some(forborne) = starves {
+        starving.push_reserved((key, forborne));
     }
 }
 

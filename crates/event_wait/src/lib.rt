@@ -7,7 +7,8 @@
 //! its lock by a [`Hold`].
 //!
 //! A [`Lock`] holds a state, and takes each [`Request`] of that state. [`waiters`] are the steps on a queue that states of locks
-//! are made of, and [`FairQueue`] is a queue in which each waiter has a turn. [`take_lock!`] takes a free lock at once. While
+//! are made of, and [`FairQueue`] is a queue in which each waiter has a turn; [`starving`] says for how long newcomers are
+//! refused for the sake of waiters that starve. [`take_lock!`] takes a free lock at once. While
 //! another thread has the lock, a thread looks ever more seldom, and sleeps at last ([`wait_for_lock`]).
 //!
 //! Read `waitable.rt` first, then `lock/wait.rt`, `request.rt`, `lock.rt` and `obtaining.rt`.
@@ -20,6 +21,7 @@ mod hold;
 mod lock;
 mod obtaining;
 mod request;
+pub mod starving;
 mod waitable;
 pub mod waiters;
 

@@ -13,6 +13,7 @@ use crate::waitable::{Obtainable, Waitable};
 use futures::task::{Context, Poll};
 use std::alloc::{AllocError, Global};
 use std::sync::{Arc, Wait};
+use std::thread;
 use std::thread::Parker;
 use std::time::Clock;
 
@@ -108,7 +109,10 @@ pub fn wait<L: Waitable<Q>, Q, R: Wait + Clock>(
         match lock.attempt_or_wait(rt, request, &StoreParker {}, &mut task) {
             Attempted::Done(output) => return Ok(Some(output)),
             Attempted::Waits(_) => {}
-            Attempted::Absent => continue,
+            Attempted::Absent => {
+                let_others_come();
+                continue;
+            }
             Attempted::Refused(error) => return Err(Refused::Request(error)),
         }
         match limit.left(rt) {
@@ -147,6 +151,12 @@ pub fn poll_in<L: Waitable<Q>, Q, R: Wait>(
         Attempted::Absent => cx.yield_now(),
         Attempted::Refused(error) => Poll::Ready(Err(error)),
     }
+}
+
+// Lets a while pass for a thread that is in no queue, and finds nothing since others come first: who is notified has to run.
+fn let_others_come() {
+    pause(PAUSES_TO_TRY);
+    thread::yield_now();
 }
 
 // Makes the task of the thread that parks on this parker.
