@@ -47,12 +47,12 @@ module _ {A : Type 0} where
 
 module _ {C : Type 0} (fits : ℕ → Type 0) (taken : ℕ → Bool) (closes : Bool) where
   eases_at : (more b r : ℕ) (q : Competing C) (told : List (Key × Notice (Unit {0}))) → told ≡ q.line.queue.told → Eases (rules_of {C = C} fits taken closes) b r → ServesWith more b q.line → ServesWith more r q.line
-  eases_at more b r q [] is eases serves = λ some. absurd (nobody q.line.starving (subst (λ (l : List (Key × Notice (Unit {0}))). list_any (is_among (keys_of l)) q.line.starving ≡ true) (sym is) some))
+  eases_at more b r q [] is eases serves = λ some. absurd (nobody (keys_of q.line.starving) (subst (λ (l : List (Key × Notice (Unit {0}))). list_any (is_among (keys_of l)) (keys_of q.line.starving) ≡ true) (sym is) some))
   eases_at more b r q (x ∷ xs) is eases serves = λ some.
       let padded : Competing C = record q { line = record q.line { queue = record q.line.queue { told = again more x q.line.queue.told } } } in
       let size = length-again more x q.line.queue.told in
       let h = serves some in
-      let left = eases padded (λ _. (h.0, omega (arith, size, h.1))) (told-again more x q.line.queue.told q.line.starving some) in
+      let left = eases padded (λ _. (h.0, omega (arith, size, h.1))) (told-again more x q.line.queue.told (keys_of q.line.starving) some) in
       (left.0, omega (arith, size, left.1))
 
   -- what was left for one more is so still

@@ -3,14 +3,17 @@ use Rattle.std.proofs.Common.{◌≡◌, ℕ, ◌+◌, ◌-◌, ◌^◌, ◌<◌
 use Rattle.std.specs.List.{list_any, filter}
 use Rattle.std.specs.Map.{keys_of, lookup, remove_entry}
 use Rattle.std.proofs.lemmas.List.{append_cancel_right}
+use Rattle.std.proofs.lemmas.Map.Entries.{length-keys_of}
 use Rattle.event_queue.specs.declared.key.Key.{Key}
 use Rattle.event_queue.specs.declared.notice.Notice.{Notice}
 use Rattle.event_queue.specs.Key.{is_key, without}
 use Rattle.event_queue.proofs.OrderLemmas.{length-remove_entry}
 use Rattle.event_queue.specs.Queue.{Queue}
 use Rattle.event_wait.specs.Line.{HasLeft, TellsUpTo, told_anew}
-use Rattle.event_wait.specs.FairQueue.{State, Comes, Joins, WaitsOn, is_among}
+use Rattle.event_wait.specs.FairQueue.{State, Comes, Forbears, ForbearsBy, IsStruck, Joins, WaitsOn, is_among}
 use Rattle.event_word.specs.Free.{free_of, Closes, IsClosed, IsOpen, IsShut, one_starving_is_told, ServesWith, ServesTheStarving, NobodyIsThere, NobodyWaits, ShutsForTheStarving, StandsIf}
+use Rattle.event_wait.specs.Starving.{Starving, but, less_forborne, struck_off}
+use Rattle.event_wait.proofs.StarvingLemmas.{joined_keys, keys-but, keys-counted_in, keys-less_forborne}
 use Rattle.event_wait.specs.declared.fair_queue.Queued.{Queued}
 
 le_or_more : (m n : ℕ) → (m ≤ n) ⊎ (n < m)
@@ -91,9 +94,12 @@ came_shorter key entries None is h = cc
 came_shorter key entries (Some notice) is h = length-remove_entry key entries notice is
 
 module _ {W : Type 0} where
+  starving-some : (s : State W) → one_starving_is_told s ≡ true → 0 < length s.starving
+  starving-some s told = omega (arith, any-some (is_among (keys_of s.queue.told)) (keys_of s.starving) told, length-keys_of s.starving)
+
   -- nobody starves
   pub serves-nobody : (n : ℕ) (s : State W) → s.starving ≡ [] → ServesTheStarving n s
-  serves-nobody n s none told = absurd (omega (arith, any-some (is_among (keys_of s.queue.told)) s.starving told, ap (λ (keys : List Key). length keys) none))
+  serves-nobody n s none told = absurd (omega (arith, starving-some s told, ap (λ (those : List Starving). length those) none))
 
   -- nobody is in the queue
   pub stands-new : (closes : Bool) (n : ℕ) (s : State W) → s.queue.waiting ≡ [] → s.starving ≡ [] → IsOpen n → StandsIf closes n s
@@ -101,7 +107,7 @@ module _ {W : Type 0} where
     nobody = λ _. rw nobody refl;
     shuts = record {
       only_then = λ shut. absurd (omega (arith, shut, may));
-      shut = λ some. absurd (omega (arith, some, ap (λ (keys : List Key). length keys) none));
+      shut = λ some. absurd (omega (arith, some, ap (λ (those : List Starving). length those) none));
     };
     serves = serves-nobody n s none;
     closed = λ closed. absurd (omega (arith, closed.1.0, may));
@@ -113,7 +119,7 @@ module _ {W : Type 0} where
     nobody = λ _. rw there.1 refl;
     shuts = record {
       only_then = λ shut. absurd (omega (arith, shut, closed.1));
-      shut = λ some. absurd (omega (arith, some, ap (λ (keys : List Key). length keys) there.2));
+      shut = λ some. absurd (omega (arith, some, ap (λ (those : List Starving). length those) there.2));
     };
     serves = serves-nobody n s there.2;
     closed = λ _. there;
@@ -175,7 +181,7 @@ module _ {W : Type 0} where
   -- one that starves and is notified finds one
   pub finds_one : {closes : Bool} (n : ℕ) (s : State W) → StandsIf closes n s → one_starving_is_told s ≡ true → 0 < free_of n
   finds_one n s h told =
-      let some : 0 < length s.queue.told = told-some s.queue.told s.starving told in
+      let some : 0 < length s.queue.told = told-some s.queue.told (keys_of s.starving) told in
       omega (arith, (h.serves told).1, some)
 
   -- the steps of the queue
@@ -184,9 +190,9 @@ module _ {W : Type 0} where
   pub serves-come : (more n : ℕ) (key : Key) (old new : State W) → Comes key old new → length new.queue.told + 1 ≡ length old.queue.told → ServesWith more n old → ServesWith (more + 1) n new
   serves-come more n key old new step fewer h told =
       let entries : List (Key × Notice (Unit {0})) = remove_entry (is_key key) old.queue.told in
-      let by_queue : list_any (is_among (keys_of entries)) (without key old.starving) ≡ true = rw (step.queue, step.starving) at told in
-      let among : list_any (is_among (keys_of entries)) old.starving ≡ true = any-filter (is_among (keys_of entries)) (λ other. not (is_key key other)) old.starving by_queue in
-      let was : one_starving_is_told old ≡ true = any-implied (is_among (keys_of entries)) (is_among (keys_of old.queue.told)) (λ other. any-removed (is_key other) (is_key key) old.queue.told) old.starving among in
+      let by_queue : list_any (is_among (keys_of entries)) (without key (keys_of old.starving)) ≡ true = rw (step.queue, step.starving, keys-but key old.starving) at told in
+      let among : list_any (is_among (keys_of entries)) (keys_of old.starving) ≡ true = any-filter (is_among (keys_of entries)) (λ other. not (is_key key other)) (keys_of old.starving) by_queue in
+      let was : one_starving_is_told old ≡ true = any-implied (is_among (keys_of entries)) (is_among (keys_of old.queue.told)) (λ other. any-removed (is_key other) (is_key key) old.queue.told) (keys_of old.starving) among in
       ((h was).0, omega (arith, (h was).1, fewer))
 
   -- a notified one has come
@@ -194,47 +200,67 @@ module _ {W : Type 0} where
   serves-came more n key old new step h =
       serves-come more n key old new step (ap (λ (q : Queue (Unit {0}) (Queued W)). length q.told + 1) step.queue ∙ came_shorter key old.queue.told (lookup (is_key key) old.queue.told) refl step.told) h
 
-  pub serves-left : (more n : ℕ) (key : Key) (old new : State W) → HasLeft key old.queue new.queue → new.starving ≡ without key old.starving → ServesWith more n old → ServesWith more n new
+  pub serves-left : (more n : ℕ) (key : Key) (old new : State W) → HasLeft key old.queue new.queue → new.starving ≡ but (Some key) old.starving → ServesWith more n old → ServesWith more n new
   serves-left more n key old new step starving h told =
       let entries : List (Key × Notice (Unit {0})) = remove_entry (is_key key) old.queue.told in
-      let by_queue : list_any (is_among (keys_of entries)) (without key old.starving) ≡ true = rw (step.told, starving) at told in
-      let among : list_any (is_among (keys_of entries)) old.starving ≡ true = any-filter (is_among (keys_of entries)) (λ other. not (is_key key other)) old.starving by_queue in
-      let was : one_starving_is_told old ≡ true = any-implied (is_among (keys_of entries)) (is_among (keys_of old.queue.told)) (λ other. any-removed (is_key other) (is_key key) old.queue.told) old.starving among in
+      let by_queue : list_any (is_among (keys_of entries)) (without key (keys_of old.starving)) ≡ true = rw (step.told, starving, keys-but key old.starving) at told in
+      let among : list_any (is_among (keys_of entries)) (keys_of old.starving) ≡ true = any-filter (is_among (keys_of entries)) (λ other. not (is_key key other)) (keys_of old.starving) by_queue in
+      let was : one_starving_is_told old ≡ true = any-implied (is_among (keys_of entries)) (is_among (keys_of old.queue.told)) (λ other. any-removed (is_key other) (is_key key) old.queue.told) (keys_of old.starving) among in
       let fewer : length new.queue.told ≤ length old.queue.told = rw step.told (length-removed (is_key key) old.queue.told) in
       ((h was).0, omega (arith, (h was).1, fewer))
 
   -- one that was notified has left: there is one for another one
-  pub serves-left_told : (more n : ℕ) (key : Key) (old new : State W) → HasLeft key old.queue new.queue → new.starving ≡ without key old.starving → length new.queue.told + 1 ≡ length old.queue.told
+  pub serves-left_told : (more n : ℕ) (key : Key) (old new : State W) → HasLeft key old.queue new.queue → new.starving ≡ but (Some key) old.starving → length new.queue.told + 1 ≡ length old.queue.told
       → ServesWith more n old → ServesWith (more + 1) n new
   serves-left_told more n key old new step starving fewer h told =
       let entries : List (Key × Notice (Unit {0})) = remove_entry (is_key key) old.queue.told in
-      let by_queue : list_any (is_among (keys_of entries)) (without key old.starving) ≡ true = rw (step.told, starving) at told in
-      let among : list_any (is_among (keys_of entries)) old.starving ≡ true = any-filter (is_among (keys_of entries)) (λ other. not (is_key key other)) old.starving by_queue in
-      let was : one_starving_is_told old ≡ true = any-implied (is_among (keys_of entries)) (is_among (keys_of old.queue.told)) (λ other. any-removed (is_key other) (is_key key) old.queue.told) old.starving among in
+      let by_queue : list_any (is_among (keys_of entries)) (without key (keys_of old.starving)) ≡ true = rw (step.told, starving, keys-but key old.starving) at told in
+      let among : list_any (is_among (keys_of entries)) (keys_of old.starving) ≡ true = any-filter (is_among (keys_of entries)) (λ other. not (is_key key other)) (keys_of old.starving) by_queue in
+      let was : one_starving_is_told old ≡ true = any-implied (is_among (keys_of entries)) (is_among (keys_of old.queue.told)) (λ other. any-removed (is_key other) (is_key key) old.queue.told) (keys_of old.starving) among in
       ((h was).0, omega (arith, (h was).1, fewer))
+
+  -- one was struck off
+  serves-struck : (more n : ℕ) (key : Key) (old new : State W) → IsStruck key old new → ServesWith more n old → ServesWith more n new
+  serves-struck more n key old new step h = by_told (lookup (is_key key) old.queue.told) refl
+    where
+      by_told : (found : Option (Notice (Unit {0}))) → lookup (is_key key) old.queue.told ≡ found → ServesWith more n new
+      by_told (Some notice) is = serves-left more n key old new (step.told (subst IsSome (sym is) refl)) step.starving h
+      by_told None is = λ told.
+          let same : new.queue ≡ old.queue = step.untold (λ some. none_of_none (subst IsSome is some)) in
+          let by_queue : list_any (is_among (keys_of old.queue.told)) (without key (keys_of old.starving)) ≡ true = rw (same, step.starving, keys-but key old.starving) at told in
+          let was : one_starving_is_told old ≡ true = any-filter (is_among (keys_of old.queue.told)) (λ other. not (is_key key other)) (keys_of old.starving) by_queue in
+          ((h was).0, rw same (h was).1)
+
+  -- a newcomer was refused for the sake of one that starves
+  pub serves-forborne : (more n : ℕ) (old new : State W) → Forbears old new → ServesWith more n old → ServesWith more n new
+  serves-forborne more n old new step h = by_strike (struck_off old.starving) step
+    where
+      by_strike : (key : Option Key) → ForbearsBy key old new → ServesWith more n new
+      by_strike None is = subst (λ (s : State W). ServesWith more n s) (sym is) (λ told. h (rw (keys-less_forborne old.starving) at told))
+      by_strike (Some key) struck = serves-struck more n key old new struck h
 
   module _ {C : Type 0} (exchanged : C → Option W → W → C → Type 0) where
     pub serves-on : (more n : ℕ) (key : Key) (old : State W) (before : C) (new : State W) (after : C) → WaitsOn exchanged key old before new after → ServesWith more n old → ServesWith more n new
     serves-on more n key old before new after step h =
         subst (λ (s : State W). ServesWith more n s) (sym step.stored) h
 
-    pub serves-joined : (more n : ℕ) (starves : Bool) (key : Key) (old : State W) (before : C) (new : State W) (after : C) → Joins exchanged starves key old before new after
+    pub serves-joined : (more n : ℕ) (starves : Option ℕ) (key : Key) (old : State W) (before : C) (new : State W) (after : C) → Joins exchanged starves key old before new after
         → ServesWith more n old → ServesWith more n new
     serves-joined more n starves key old before new after step h told =
         let same : new.queue.told ≡ old.queue.told = ap (λ (q : Queue (Unit {0}) (Queued W)). q.told) step.queue.queue in
-        let by_queue : list_any (is_among (keys_of old.queue.told)) (if starves then old.starving ++ key ∷ [] else old.starving) ≡ true = rw (same, step.starving) at told in
+        let by_queue : list_any (is_among (keys_of old.queue.told)) (joined_keys key starves (keys_of old.starving)) ≡ true = rw (same, step.starving, keys-counted_in key starves old.starving) at told in
         let was : one_starving_is_told old ≡ true = by_start starves by_queue in
         ((h was).0, rw same (h was).1)
       where
-        by_start : (b : Bool) → list_any (is_among (keys_of old.queue.told)) (if b then old.starving ++ key ∷ [] else old.starving) ≡ true → one_starving_is_told old ≡ true
-        by_start true t = any-last (is_among (keys_of old.queue.told)) old.starving key (any-front (is_key key) (keys_of old.queue.told) (keys_of old.queue.waiting) step.its_own) t
-        by_start false t = t
+        by_start : (b : Option ℕ) → list_any (is_among (keys_of old.queue.told)) (joined_keys key b (keys_of old.starving)) ≡ true → one_starving_is_told old ≡ true
+        by_start (Some forborne) t = any-last (is_among (keys_of old.queue.told)) (keys_of old.starving) key (any-front (is_key key) (keys_of old.queue.told) (keys_of old.queue.waiting) step.its_own) t
+        by_start None t = t
 
   -- who settles
 
   pub serves-numbered : (more old new : ℕ) (s : State W) → free_of new ≡ free_of old → (0 < length s.starving → IsShut new) → ServesWith more old s → ServesWith more new s
   serves-numbered more old new s is shut h told =
-      (shut (any-some (is_among (keys_of s.queue.told)) s.starving told), omega (arith, (h told).1, is))
+      (shut (starving-some s told), omega (arith, (h told).1, is))
 
   pub stands-settled : (closes : Bool) (n : ℕ) (old new : State W) → TellsUpTo (free_of n) old.queue new.queue → new ≡ record old { queue = new.queue } → ShutsForTheStarving n old → ServesTheStarving n old → (Closes closes n → ⊥) → StandsIf closes n new
   stands-settled closes n old new step kept shuts serves stays = record {
@@ -243,7 +269,7 @@ module _ {W : Type 0} where
       only_then = λ shut. rw starving (shuts.only_then shut);
       shut = λ some. shuts.shut (rw starving at some);
     };
-    serves = λ told. (shuts.shut (rw starving at (any-some (is_among (keys_of new.queue.told)) new.starving told)), by_case told);
+    serves = λ told. (shuts.shut (rw starving at (starving-some new told)), by_case told);
     closed = λ closed. absurd (stays closed);
   }
     where

@@ -1,11 +1,12 @@
 -- How one competes.
-use Rattle.std.specs.Prelude.{◌≡◌, ◌↔◌, ℕ, ◌+◌, ◌≤◌, min, Bool, true, if◌then◌else◌, Option, Some, None, is_some, IsSome}
+use Rattle.std.specs.Prelude.{◌≡◌, ◌↔◌, ℕ, ◌+◌, ◌≤◌, min, if◌then◌else◌, Option, Some, None, is_some, IfSome, IsSome}
 use Rattle.std.specs.Map.{lookup}
 use Rattle.event_queue.specs.declared.key.Key.{Key}
 use Rattle.event_queue.specs.Key.{is_key}
 use Rattle.event_wait.specs.Attempted.{Stores}
 use Rattle.event_wait.specs.Line.{IsNotIn}
 use Rattle.event_wait.specs.FairQueue.{State, Joins}
+use Rattle.event_wait.specs.Starving.{forborne_with}
 use Rattle.event_word.specs.declared.contender.Coming.{Coming}
 use Rattle.event_word.specs.declared.contender.Coming.TheVariants.{New, Notified, Waits}
 
@@ -41,8 +42,9 @@ module _ {W C : Type 0} (exchanged : C → Option W → W → C → Type 0) wher
   Comes old before Notified line new after = IsSome old × NobodyIsBy old line × (new ≡ None) × (after ≡ before)
   Comes old before (Waits key) line new after = (old ≡ Some key) × (new ≡ Some key) × Stores exchanged before after
 
-  -- one that has lost so often waits at the end, and starves if that is twice
-  pub record Loses (losses : ℕ) (key : Key) (old : State W) (before : C) (new : State W) (after : C) : Type 0 where
-    pub starves : Bool
-    pub twice : (starves ≡ true) ↔ (2 ≤ losses)
+  -- one that came so and has lost so often waits at the end, and starves if it was notified and that is twice
+  pub record Loses (coming : Coming) (losses : ℕ) (key : Key) (old : State W) (before : C) (new : State W) (after : C) : Type 0 where
+    pub starves : Option ℕ
+    pub twice : IsSome starves ↔ (count_of coming ≡ 1) × (2 ≤ losses)
+    pub forborne : IfSome starves (λ n. n ≡ forborne_with losses)
     pub joins : Joins exchanged starves key old before new after

@@ -34,7 +34,7 @@ NoneFor notified n = (free_of n ≡ 0) ⊎ (notified ≡ false × IsShut n)
 module _ {W : Type 0} where
   -- whether one that starves is notified
   abbrev pub one_starving_is_told : State W → Bool
-  one_starving_is_told s = list_any (is_among (keys_of s.queue.told)) s.starving
+  one_starving_is_told s = list_any (is_among (keys_of s.queue.told)) (keys_of s.starving)
 
   -- while one that starves is notified, newcomers are shut out, and as many are free as are notified, and these more
   abbrev pub ServesWith : ℕ → ℕ → State W → Type 0

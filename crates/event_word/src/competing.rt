@@ -5,9 +5,9 @@ ghost use Rattle.event_wait.specs.Attempted.{Stores};
 ghost use Rattle.event_word.specs.Contender.{Comes, Loses, NobodyIsBy, coming_of, count_of, losses_after};
 ghost use Rattle.event_word.specs.Free.{Closes, IsClosed, IsOpen, NobodyIsThere, NobodyWaits, ServesTheStarving, ServesWith, Stands, StandsIf, all_tasks, free_of, one_starving_is_told};
 ghost use Rattle.event_word.specs.Competing.{rules_of};
-ghost use Rattle.event_wait.specs.FairQueue.{State};
+ghost use Rattle.event_wait.specs.FairQueue.{Forbears, State};
 
-use crate::contender::{Coming, PATIENCE};
+use crate::contender::{Coming, forborne};
 use crate::wakes::Room;
 use crate::word::Kept;
 use event_queue::{Key, RegisterResult, TaskExchange, WakeSink};
@@ -154,9 +154,9 @@ impl<C> Competing<C> {
 
     /// Has a contender whose attempt found nothing wait at the end of the queue, and returns its key.
     ///
-    /// A contender that was notified has lost once more, and starves once it has lost [`PATIENCE`] times. Returns
-    /// [`LockError::Listen`] if memory runs out or the queue has given out all its serial numbers; an error leaves the queue, the
-    /// place and the losses as they were. May allocate.
+    /// A contender that was notified has lost once more, and starves once it has lost [`PATIENCE`](event_wait::starving::PATIENCE)
+    /// times. Returns [`LockError::Listen`] if memory runs out or the queue has given out all its serial numbers; an error leaves
+    /// the queue, the place and the losses as they were. May allocate.
     pub fn lose<O, X: TaskExchange<Task, O>>(
         &mut self,
         place: &mut Option<Key>,
@@ -169,7 +169,7 @@ impl<C> Competing<C> {
         ensures losses { IfOk result (λ _. losses.new ≡ losses_after losses.old coming) }
         ensures rises { losses.old ≤ losses.new }
         ensures loses { IfOk result (λ key.
-            Loses (X.exchanged exchange.now) losses.new key self.old.line on.old
+            Loses (X.exchanged exchange.now) coming losses.new key self.old.line on.old
             self.new.line on.new) }
         ensures stores { IfOk result (λ _. Stores (X.exchanged exchange.now) on.old on.new) }
         ensures serves { (n : ℕ) → ServesTheStarving n self.old.line
@@ -182,7 +182,7 @@ impl<C> Competing<C> {
         } else {
             *losses
         };
-        match self.line.join(exchange, on, lost >= PATIENCE) {
+        match self.line.join(exchange, on, forborne(coming, lost)) {
             Ok(key) => {
                 *place = Some(key);
                 *losses = lost;
@@ -207,6 +207,16 @@ impl<C> Competing<C> {
             return Coming::Notified;
         }
         Coming::New
+    }
+
+    /// Counts a newcomer that is refused for the sake of the first waiter that starves, and strikes that waiter off if the
+    /// newcomer is the last to be refused for it, as [`FairQueue::forbear`] does.
+    pub fn forbear(&mut self)
+        ensures forbears { Forbears self.old.line self.new.line }
+        ensures serves { (n : ℕ) → ServesTheStarving n self.old.line
+            → ServesTheStarving n self.new.line }
+    {
+        self.line.forbear();
     }
 
     /// Notifies all waiters, and leaves an empty queue, so that no contender has a place any more. The tasks go to `sink`.

@@ -1,13 +1,12 @@
 //! A waiter that competes.
-ghost use Rattle.std.specs.Prelude.{◌≡◌, ℕ, if◌then◌else◌};
+ghost use Rattle.std.specs.Prelude.{◌≡◌, ◌≤◌, ◌↔◌, ℕ, if◌then◌else◌, IfSome, IsSome};
+ghost use Rattle.event_wait.specs.Starving.{forborne_with};
 ghost use Rattle.event_word.specs.Contender.{count_of};
 ghost use Rattle.event_word.specs.declared.contender.Coming.{Coming};
 
 use event_queue::Key;
+use event_wait::starving::{PATIENCE, forborne_with};
 use std::marker::Model;
-
-/// How often a waiter is notified and finds nothing before newcomers are shut out for it.
-pub const PATIENCE: u32 = 2;
 
 /// A thread or a task that competes for a permit or a value. The contract of a wait sees how often the contender lost.
 #[derive(Drop)]
@@ -47,6 +46,20 @@ impl Coming {
             Coming::Waits(_) => false,
         }
     }
+}
+
+/// Returns for how many newcomers beside the last a contender is forborne with that has lost so often and waits again, if that
+/// contender starves: it was notified, and has lost [`PATIENCE`] times.
+///
+/// A contender that is new does not starve, however often it has lost: it was struck off, and joins as any newcomer does.
+pub(crate) fn forborne(coming: Coming, losses: u32) -> Option<u32>
+    ensures starves { IsSome result ↔ (count_of coming ≡ 1) × (2 ≤ losses) }
+    ensures number { IfSome result (λ n. n ≡ forborne_with losses) }
+{
+    if coming.is_notified() && losses >= PATIENCE {
+        return Some(forborne_with(losses));
+    }
+    None
 }
 
 /// How a contender started an attempt, as its queue says. Only [`Held::come`](crate::Held::come) and

@@ -1,12 +1,13 @@
 //! What contenders for a lock do with its state out.
-ghost use Rattle.std.specs.Prelude.{◌≡◌, ◌+◌, ◌<◌, ◌≤◌, true, Some, None, IfOk, OnErr};
+ghost use Rattle.std.specs.Prelude.{◌≡◌, ◌+◌, ◌<◌, ◌≤◌, false, true, Some, None, IfOk, OnErr};
 ghost use Rattle.event_word.specs.Contender.{Comes, Loses, NobodyIsBy, coming_of, count_of, losses_after};
 ghost use Rattle.event_word.specs.Free.{ServesTheStarving, ServesWith, StandsIf, free_of, IsClosed, IsShut};
 ghost use Rattle.event_word.specs.Held.{HasState};
 ghost use Rattle.event_wait.specs.Attempted.{Stores};
+ghost use Rattle.event_wait.specs.FairQueue.{Forbears};
 
-use super::Word;
 use super::held::Held;
+use super::{OUT, Word};
 use crate::competing::{Competing, Counted, SHUT, free, is_closed_for};
 use crate::contender::Arrival;
 use crate::counts::Counts;
@@ -38,6 +39,38 @@ impl<C: Counted, V> Word<Competing<C>, V> {
         held.put_back(rt);
         counts
     }
+}
+
+impl<C: Counted, V> Word<Competing<C>, V> {
+    /// Counts a newcomer whose attempt found nothing, as [`Held::forbear`] does, where the state is at home. Does nothing where
+    /// something else than a waiter that starves kept the newcomer from it.
+    ///
+    /// The attempt asked for `wanted` permits or values. The call costs one load where newcomers are not shut out. Where they are,
+    /// it takes the state and puts it back, for which it may block only to wake more than a few tasks. Takes no memory.
+    #[inline(always)]
+    pub fn forbear<R: Wait>(&self, rt: &R, wanted: u64) {
+        if shuts_out_alone(self.number(), wanted) {
+            self.forbear_at_home(rt);
+        }
+    }
+
+    #[cold]
+    #[inline(never)]
+    fn forbear_at_home<R: Wait>(&self, rt: &R) {
+        let (seen, seat) = self.look();
+        if seen % 2 == 1 {
+            return;
+        }
+        if let Ok(mut held) = self.take_step(seat, seen, seen - seen % 4 + OUT) {
+            held.forbear();
+            held.put_back(rt);
+        }
+    }
+}
+
+// Returns whether a newcomer that wants so many gets none by this number only because newcomers are shut out.
+fn shuts_out_alone(number: u64, wanted: u64) -> bool {
+    number >= SHUT && free(number) >= wanted
 }
 
 impl<'a, C: Counted, V> Held<'a, Competing<C>, V> {
@@ -104,8 +137,8 @@ impl<'a, C: Counted, V> Held<'a, Competing<C>, V> {
         ensures place { IfOk result (λ key. place.new ≡ Some key) }
         ensures losses { IfOk result (λ _. losses.new ≡ losses_after losses.old arrival) }
         ensures loses { IfOk result (λ key. HasState (λ _ before. HasState (λ _ after.
-            Loses (X.exchanged exchange.now) losses.new key before.line on.old after.line on.new)
-            self.new) self.old) }
+            Loses (X.exchanged exchange.now) arrival losses.new key before.line on.old after.line
+            on.new) self.new) self.old) }
         ensures waits { IfOk result (λ _. Stores (X.exchanged exchange.now) on.old on.new) }
         ensures refused { OnErr result ((place.new ≡ place.old) × (losses.new ≡ losses.old)
             × (on.new ≡ on.old)) }
@@ -115,6 +148,28 @@ impl<'a, C: Counted, V> Held<'a, Competing<C>, V> {
             return Err(LockError::Listen(ListenError::Memory));
         }
         state.lose(place, losses, arrival.coming(), exchange, on)
+    }
+
+    /// Counts a newcomer that found nothing, if it found nothing only because newcomers are shut out, and returns whether that is
+    /// so: then the newcomer tries again, and joins no queue.
+    ///
+    /// The newcomer is refused for the sake of the first waiter that starves. That waiter is struck off if the newcomer is the
+    /// last to be refused for it: it starves no more, and leaves the queue if it was notified. So newcomers are shut out only for
+    /// a while by a waiter that does not come.
+    pub fn forbear(&mut self) -> bool
+        requires serves { HasState (λ n q. ServesTheStarving n q.line) self.old }
+        ensures of { self.new.word ≡ self.old.word }
+        ensures serves { HasState (λ n q. ServesTheStarving n q.line) self.new }
+        ensures number { self.new.seat.view.number ≡ self.old.seat.view.number }
+        ensures state { result ≡ false → self.new.claim.state ≡ self.old.claim.state }
+        ensures forbears { result ≡ true → HasState (λ _ before. HasState (λ _ after.
+            Forbears before.line after.line) self.new) self.old }
+    {
+        if !shuts_out_alone(self.word.number(), 1) {
+            return false;
+        }
+        self.claim.state_mut().forbear();
+        true
     }
 
     /// Removes a contender from the queue, if it is there, and returns how it would have started an attempt: notified, or else
