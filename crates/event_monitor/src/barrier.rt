@@ -8,10 +8,11 @@ mod rounds;
 
 pub use self::rounds::{Ended, Rounds};
 use crate::error::{BlockError, PollError};
+use crate::lock::QuietLock;
 use crate::queueing::Queueing;
 use crate::ticket::{Handoff, Ticket, found};
 use event_queue::{Key, ListenError, TaskExchange, WakeSink};
-use event_wait::{Attempted, Hold, Limit, Lock, Task};
+use event_wait::{Attempted, Hold, Limit, Task};
 use futures::Future;
 use futures::task::{Context, Poll};
 use std::alloc::Global;
@@ -21,7 +22,7 @@ use std::time::{Clock, Duration, Instant};
 /// A barrier: a fixed number of threads and tasks have to arrive before any of them goes on, round after round.
 #[derive(Drop)]
 pub struct Barrier {
-    rounds: Lock<Rounds<Task>>,
+    rounds: QuietLock<Rounds<Task>>,
 }
 
 /// A wait at a barrier for the others. It arrives once it is waited on or polled, and not before.
@@ -32,7 +33,7 @@ pub struct Barrier {
 #[must_use = "it arrives only once it is waited on or polled"]
 #[derive(Drop)]
 pub struct BarrierWait<'a, R: Wait + Clock> {
-    queueing: Queueing<Lock<Rounds<Task>>, Ticket<Ended>, Arriving<'a, R>>,
+    queueing: Queueing<QuietLock<Rounds<Task>>, Ticket<Ended>, Arriving<'a, R>>,
 }
 
 /// The end of a round at a barrier, as a caller sees it that arrived in the round.
@@ -46,7 +47,7 @@ impl Barrier {
     /// until somebody waits.
     pub fn new(alloc: Global, parties: usize) -> Self {
         Barrier {
-            rounds: Lock::of(Rounds::new(alloc, parties)),
+            rounds: QuietLock::of(alloc, Rounds::new(alloc, parties)),
         }
     }
 
@@ -138,12 +139,12 @@ pub(crate) struct Arriving<'a, R> {
     rt: &'a R,
 }
 
-impl<'a, R: Wait + Clock> Hold<Lock<Rounds<Task>>> for Arriving<'a, R> {
+impl<'a, R: Wait + Clock> Hold<QuietLock<Rounds<Task>>> for Arriving<'a, R> {
     ghost held = { λ it. it.barrier.now.rounds };
 
     type Runtime = R;
 
-    fn lock(&self) -> &Lock<Rounds<Task>> {
+    fn lock(&self) -> &QuietLock<Rounds<Task>> {
         &self.barrier.rounds
     }
 

@@ -8,13 +8,16 @@
 mod asking;
 mod barrier;
 mod error;
+mod lock;
 mod monitor;
 mod once_cell;
 mod queueing;
 mod ticket;
+mod wakes;
 
 pub use barrier::{Barrier, BarrierWait, BarrierWaitResult, Ended, Rounds};
 pub use error::{BlockError, PollError, SetError, SetReason, WaitError};
+pub use lock::{QuietLock, Waited};
 pub use monitor::{Condition, Monitor, Until, Waiter, Watch, Watched};
 pub use once_cell::{
     Claim, Claiming, Initializing, IsSet, Once, OnceCell, Seeing, Surely, Turn, Vacant,

@@ -8,10 +8,9 @@ mod watched;
 pub use self::watched::{Condition, Waiter, Watched};
 use crate::asking;
 use crate::error::WaitError;
+use crate::lock::{QuietLock, quiet_step};
 use event_queue::{Key, ListenError, TaskExchange, WakeSink};
-use event_wait::{
-    Attempt, Attempted, Limit, Lock, Obtainable, Refused, Request, Task, poll_in, step,
-};
+use event_wait::{Attempt, Attempted, Limit, Obtainable, Refused, Request, Task, poll_in};
 use futures::Future;
 use futures::task::{Context, Poll};
 use std::alloc::Global;
@@ -26,14 +25,14 @@ use std::time::{Clock, Duration, Instant};
 /// wait, or where one change gives most of them what they want.
 #[derive(Drop)]
 pub struct Monitor<V, C: Condition<V>> {
-    watched: Lock<Watched<V, C, Task>>,
+    watched: QuietLock<Watched<V, C, Task>>,
 }
 
 impl<V: Drop, C: Condition<V> + Copy> Monitor<V, C> {
     /// Makes a monitor of `value`, without waiters. The monitor takes no memory until somebody waits.
     pub fn new(alloc: Global, value: V) -> Self {
         Monitor {
-            watched: Lock::of(Watched::new(alloc, value)),
+            watched: QuietLock::of(alloc, Watched::new(alloc, value)),
         }
     }
 
@@ -44,7 +43,7 @@ impl<V: Drop, C: Condition<V> + Copy> Monitor<V, C> {
         requires { F.IsAlwaysCallable change }
         ensures { Changes F.FnOnce change result }
     {
-        step!(self.watched, rt, watched, waking => watched.change(change, &mut waking))
+        quiet_step!(self.watched, rt, watched, sink => watched.change(change, &mut sink))
     }
 
     /// Attempts `condition` once, without waiting for it. Returns what the attempt gave, or `None` if it failed.
@@ -54,7 +53,7 @@ impl<V: Drop, C: Condition<V> + Copy> Monitor<V, C> {
         ensures gave { IfSome result (λ output. Gives C.gives condition output) }
         ensures failed { result ≡ None → Fails C.fails condition }
     {
-        step!(self.watched, rt, watched, waking => watched.attempt(condition, &mut waking))
+        quiet_step!(self.watched, rt, watched, sink => watched.attempt(condition, &mut sink))
     }
 
     /// Waits until an attempt of `condition` gives something, once the returned [`Until`] is waited on or polled. Until then
@@ -91,7 +90,7 @@ impl<V: Drop, C: Condition<V> + Copy> Monitor<V, C> {
 /// that is dropped while it waits leaves the queue.
 #[must_use = "nothing is attempted until it is waited on or polled"]
 pub struct Until<'a, V, C: Condition<V> + Copy, R: Wait> {
-    lock: &'a Lock<Watched<V, C, Task>>,
+    lock: &'a QuietLock<Watched<V, C, Task>>,
     rt: &'a R,
     alloc: Global,
     watch: Watch<C>,
@@ -155,7 +154,7 @@ impl<V, C: Condition<V> + Copy, R: Wait + Clock> Until<'_, V, C, R> {
 // types.
 #[inline(always)]
 fn obtain<V, C: Condition<V> + Copy, R: Wait + Clock>(
-    lock: &Lock<Watched<V, C, Task>>,
+    lock: &QuietLock<Watched<V, C, Task>>,
     rt: &R,
     alloc: Global,
     watch: &mut Watch<C>,

@@ -15,8 +15,9 @@ pub use self::once::{IsSet, Once, Turn};
 pub use self::waits::{Claiming, Seeing};
 use crate::asking::obtain;
 use crate::error::{SetError, SetReason, WaitError};
+use crate::lock::{QuietLock, quiet_step};
 use crate::ticket::Ticket;
-use event_wait::{Limit, Lock, Task, step};
+use event_wait::{Limit, Task};
 use std::alloc::Global;
 use std::marker::Model;
 use std::sync::{OnceLock, OnceToken, Wait};
@@ -33,7 +34,7 @@ use std::time::{Clock, Duration, Instant};
 /// ```
 #[derive(Drop)]
 pub struct OnceCell<T> {
-    once: Lock<Once<Task>>,
+    once: QuietLock<Once<Task>>,
     value: OnceLock<T>,
 }
 
@@ -49,7 +50,7 @@ impl<T> OnceCell<T> {
     /// Makes a cell without a value. It takes no memory until somebody waits.
     pub fn new(alloc: Global) -> Self {
         OnceCell {
-            once: Lock::of(Once::new(alloc)),
+            once: QuietLock::of(alloc, Once::new(alloc)),
             value: OnceLock::new(),
         }
     }
@@ -315,7 +316,7 @@ impl<T> OnceCell<T> {
 
     /// Takes the value out, if it is set. From here on the cell is like a new one.
     pub fn take(&mut self, alloc: Global) -> Option<T> {
-        self.once = Lock::of(Once::new(alloc));
+        self.once = QuietLock::of(alloc, Once::new(alloc));
         self.value.take()
     }
 
@@ -424,6 +425,6 @@ impl<T> OnceCell<T> {
     }
 
     fn give_back<R: Wait>(&self, rt: &R, turn: Turn) {
-        step!(self.once, rt, once, waking => once.give_back(turn, &mut waking))
+        quiet_step!(self.once, rt, once, sink => once.give_back(turn, &mut sink))
     }
 }

@@ -9,6 +9,7 @@ ghost use Rattle.event_wait.specs.Joining.{Comes, IfRefused};
 ghost use Rattle.event_wait.specs.Line.{HandsOut, Looked, OnGranted, as_told, left_by};
 ghost use Rattle.event_monitor.specs.Rounds.{NobodyWaitsInVain};
 
+use crate::lock::Waited;
 use event_queue::{Key, List, ListenError, RegisterResult, TaskExchange, WakeSink};
 use event_wait::waiters::{Left, hand_all, join_line, leave_line, look_for};
 use event_wait::{Attempted, Task};
@@ -172,5 +173,13 @@ impl<W> Rounds<W> {
         ensures { NobodyWaitsInVain self.now }
     {
         let _ = &self.parties;
+    }
+}
+
+impl<W> Waited for Rounds<W> {
+    fn waiting(&self) -> usize
+        ensures { result ≡ length self.now.line.waiting }
+    {
+        self.line.total_listeners() - self.line.listeners_notified()
     }
 }

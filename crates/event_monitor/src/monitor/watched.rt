@@ -1,10 +1,11 @@
 //! The state of a monitor: a value, and the waiters for conditions on it.
-ghost use Rattle.std.specs.Prelude.{◌≡◌, [], None, IfErr, IfOk, IfSome, IsSome, OnErr};
+ghost use Rattle.std.specs.Prelude.{◌≡◌, [], length, None, IfErr, IfOk, IfSome, IsSome, OnErr};
 ghost use Rattle.std.specs.Fn.{FnOnceReturnsAtMut};
 ghost use Rattle.std.specs.List.{FoldsTo};
 ghost use Rattle.event_wait.specs.Line.{CannotWait, Leaves, TellsAll, WaitsBy};
 ghost use Rattle.event_monitor.specs.Watched.{NobodyWaitsInVain, Obtains, Watches, stored_by, woken_by_attempting, woken_by_trying, woken_tasks};
 
+use crate::lock::Waited;
 use crate::ticket::waiting;
 use event_queue::{Key, List, ListenError, TaskExchange, WakeSink};
 use event_wait::Attempted;
@@ -238,4 +239,12 @@ fn task_in<C: Copy, W>(waiter: Option<Waiter<C, W>>) -> Option<W>
 {
     let Waiter { condition: _, task } = waiter?;
     Some(task)
+}
+
+impl<V, C: Condition<V>, W> Waited for Watched<V, C, W> {
+    fn waiting(&self) -> usize
+        ensures { result ≡ length self.now.line.waiting }
+    {
+        self.line.total_listeners() - self.line.listeners_notified()
+    }
 }

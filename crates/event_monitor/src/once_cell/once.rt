@@ -11,6 +11,7 @@ ghost use Rattle.event_wait.specs.Joining.{Comes, IfRefused};
 ghost use Rattle.event_wait.specs.Line.{HandsOut, Looked, OnGranted, TellsAll, as_told, is_granted, left_by};
 ghost use Rattle.event_monitor.specs.Once.{MakersStay, NobodyWaitsInVain, making_at, making_by, turn_at, turns};
 
+use crate::lock::Waited;
 use crate::ticket::waiting;
 use event_queue::{Key, List, ListenError, RegisterResult, TaskExchange, WakeSink};
 use event_wait::waiters::{hand_all, hand_out, join_line, leave_line, look_for};
@@ -286,5 +287,13 @@ impl Once<Task> {
             Turn::Made => self.set(sink),
             Turn::Use => {}
         }
+    }
+}
+
+impl<W> Waited for Once<W> {
+    fn waiting(&self) -> usize {
+        let makers = self.makers.total_listeners() - self.makers.listeners_notified();
+        let readers = self.readers.total_listeners() - self.readers.listeners_notified();
+        makers.saturating_add(readers)
     }
 }

@@ -5,10 +5,11 @@ ghost use Rattle.event_wait.specs.declared.lock.limit.Limit.TheVariants.{Never};
 use super::once::{IsSet, Once, Turn};
 use super::{Claim, OnceCell};
 use crate::error::{BlockError, PollError};
+use crate::lock::QuietLock;
 use crate::queueing::Queueing;
 use crate::ticket::{Handoff, Ticket, found};
 use event_queue::{Key, ListenError, TaskExchange, WakeSink};
-use event_wait::{Attempted, Hold, Limit, Lock, Task};
+use event_wait::{Attempted, Hold, Limit, Task};
 use futures::Future;
 use futures::task::{Context, Poll};
 use std::alloc::Global;
@@ -23,7 +24,7 @@ use std::time::{Clock, Duration, Instant};
 #[must_use = "nothing is asked for until it is waited on or polled"]
 #[derive(Drop)]
 pub struct Claiming<'a, T, R: Wait + Clock> {
-    pub(super) queueing: Queueing<Lock<Once<Task>>, Ticket<Turn>, Asking<'a, T, R>>,
+    pub(super) queueing: Queueing<QuietLock<Once<Task>>, Ticket<Turn>, Asking<'a, T, R>>,
 }
 
 /// A wait until somebody has set the value of a cell. It asks once it is waited on or polled, and not before.
@@ -34,7 +35,7 @@ pub struct Claiming<'a, T, R: Wait + Clock> {
 #[must_use = "nothing is asked for until it is waited on or polled"]
 #[derive(Drop)]
 pub struct Seeing<'a, T, R: Wait + Clock> {
-    queueing: Queueing<Lock<Once<Task>>, Ticket<IsSet>, Asking<'a, T, R>>,
+    queueing: Queueing<QuietLock<Once<Task>>, Ticket<IsSet>, Asking<'a, T, R>>,
 }
 
 impl<'a, T, R: Wait + Clock> Claiming<'a, T, R> {
@@ -192,12 +193,12 @@ pub(crate) struct Asking<'a, T, R> {
     rt: &'a R,
 }
 
-impl<'a, T, R: Wait + Clock> Hold<Lock<Once<Task>>> for Asking<'a, T, R> {
+impl<'a, T, R: Wait + Clock> Hold<QuietLock<Once<Task>>> for Asking<'a, T, R> {
     ghost held = { λ it. it.cell.now.source };
 
     type Runtime = R;
 
-    fn lock(&self) -> &Lock<Once<Task>> {
+    fn lock(&self) -> &QuietLock<Once<Task>> {
         let cell = self.cell;
         &cell.once
     }
