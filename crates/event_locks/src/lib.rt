@@ -17,6 +17,7 @@ pub use event_monitor::{
     Monitor, OnceCell, PollError, Seeing, SetError, SetReason, Surely, Until, Vacant, WaitError,
 };
 pub use event_wait::LockError;
+pub use event_wait::starving::{FORBEARANCE, PATIENCE};
 pub use event_word::{Counts, RwLockCounts, TryAcquireError};
 pub use mutex::{Lock, LockArc, Mutex, MutexGuard, MutexGuardArc};
 pub use rw_lock::{

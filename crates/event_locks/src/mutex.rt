@@ -32,9 +32,12 @@ use std::time::Clock;
 /// again, that waiter rejoins the queue at its end. A waiter that loses so twice *starves*: newcomers are shut out until that
 /// waiter has tried again, and then it finds the value.
 ///
-/// Losses belong to one wait, so a caller that makes a new wait after each time limit may find nothing for ever. A wait for
-/// which newcomers are shut out keeps them out as long as it is kept and neither polled, waited on nor dropped, and for good if
-/// it is forgotten.
+/// Newcomers are shut out only for a while. A starving waiter that is neither polled, waited on nor dropped is struck off once 64
+/// newcomers found the value free and were refused for its sake ([`FORBEARANCE`](crate::FORBEARANCE)), or twice as many after
+/// each loss beyond the second, up to a million. Then it starves no more, the next waiter is notified in its place, and it waits
+/// anew when it is polled. A newcomer that waits tries again and again meanwhile, and each of its tries counts.
+///
+/// Losses belong to one wait, so a caller that makes a new wait after each time limit may find nothing for ever.
 ///
 /// The value lies in the mutex while nobody has it, and else in the guard of its owner. Each lock therefore moves the value out
 /// and in again: box a large value.
@@ -104,8 +107,9 @@ impl<T: Drop> Mutex<T> {
 
     /// Takes the value, if nobody has it and newcomers are not shut out. Returns `None` else.
     ///
-    /// Newcomers are shut out while a waiter starves, and while a thread that tried sixteen times in vain puts the queue back. The
-    /// call takes no memory and never blocks.
+    /// Newcomers are shut out while a waiter starves, and while a thread that tried sixteen times in vain puts the queue back. A
+    /// call that finds nothing for the sake of a starving waiter counts against that waiter, as the description of the type
+    /// says. The call takes no memory. It blocks only where the last such call has a waiter struck off, for the queue.
     ///
     /// While the guard in `taken` is kept, another wait for the value ends at its limit without it, so `in_time` is `false`:
     ///
@@ -119,7 +123,10 @@ impl<T: Drop> Mutex<T> {
     #[must_use = "a guard that is dropped at once gives back what it holds"]
     #[inline(always)]
     pub fn try_lock<'a, R: Wait + Clock>(&'a self, rt: &'a R) -> Option<MutexGuard<'a, T, R>> {
-        let (lent, value) = self.try_value(rt)?;
+        let Some((lent, value)) = self.try_value(rt) else {
+            self.word.forbear(rt, 1);
+            return None;
+        };
         Some(MutexGuard::with(Lending::new(self, rt), lent, value))
     }
 
@@ -134,8 +141,11 @@ impl<T: Drop> Mutex<T> {
         rt: R,
     ) -> Result<Option<MutexGuardArc<T, R>>, AllocError> {
         let lock = Arc::try_clone(this)?;
-        let loan = lock.try_borrow(&rt);
-        Ok(loan.map(|loan| MutexGuardArc::new(Shared { lock, rt }, loan)))
+        let Some(loan) = lock.try_borrow(&rt) else {
+            lock.word.forbear(&rt, 1);
+            return Ok(None);
+        };
+        Ok(Some(MutexGuardArc::new(Shared { lock, rt }, loan)))
     }
 
     /// Asks for the value, once the returned [`Lock`] is waited on or polled. Until then nothing happens.
@@ -266,7 +276,8 @@ impl<T: Drop> Debug for Mutex<T> {
     }
 }
 
-// Attempts for a contender with the queue out, and has a contender that finds nothing wait at the end of the queue.
+// Attempts for a contender with the queue out, and has a contender that finds nothing wait at the end of the queue. A newcomer
+// that finds nothing only because newcomers are shut out is absent: it tries again.
 fn attempt_held<'a, T, C, X: TaskExchange<Task, C>, R: Wait>(
     rt: &R,
     held: &mut Held<'a, Competing<OneValue>, Lodging<T>>,
@@ -297,11 +308,12 @@ fn attempt_held<'a, T, C, X: TaskExchange<Task, C>, R: Wait>(
     if let Coming::Waits(key) = coming {
         return Attempted::Waits(key);
     }
-    if let Some(lent) = held.take_value(rt, coming.is_notified()) {
-        return Attempted::Done(lent);
-    }
-    match held.lose(place, losses, arrival, exchange, on) {
-        Ok(key) => Attempted::Waits(key),
-        Err(error) => Attempted::Refused(error),
+    match held.take_value(rt, coming.is_notified()) {
+        Some(lent) => Attempted::Done(lent),
+        None if !coming.is_notified() && held.forbear() => Attempted::Absent,
+        None => match held.lose(place, losses, arrival, exchange, on) {
+            Ok(key) => Attempted::Waits(key),
+            Err(error) => Attempted::Refused(error),
+        },
     }
 }

@@ -38,9 +38,12 @@ use std::time::Clock;
 /// permit, it rejoins the queue at its end. A waiter that loses so twice *starves*: newcomers are shut out until that waiter
 /// has tried again, and then it finds a permit.
 ///
-/// Losses belong to one wait, so a caller that makes a new wait after each time limit may find nothing for ever. A wait for
-/// which newcomers are shut out keeps them out as long as it is kept and neither polled, waited on nor dropped, and for good if
-/// it is forgotten.
+/// Newcomers are shut out only for a while. A starving waiter that is neither polled, waited on nor dropped is struck off once 64
+/// newcomers were refused for its sake though a permit was free ([`FORBEARANCE`](crate::FORBEARANCE)), or twice as many after
+/// each loss beyond the second, up to a million. Then it starves no more, the next waiter is notified in its place, and it waits
+/// anew when it is polled. A newcomer that waits tries again and again meanwhile, and each of its tries counts.
+///
+/// Losses belong to one wait, so a caller that makes a new wait after each time limit may find nothing for ever.
 ///
 /// [`acquire`](Semaphore::acquire) shows what each job does. Here two jobs at most run at once, because the semaphore has two
 /// permits:
@@ -134,8 +137,13 @@ impl Semaphore {
     ) -> Result<SemaphoreGuard<'a, R>, TryAcquireError>
         ensures one { IfOk result (λ guard. guard ≡ 1) }
     {
-        let permit = self.word.try_permit()?;
-        Ok(SemaphoreGuard::new(Borrowed { lock: self, rt }, permit))
+        match self.word.try_permit() {
+            Ok(permit) => Ok(SemaphoreGuard::new(Borrowed { lock: self, rt }, permit)),
+            Err(error) => {
+                self.word.forbear(rt, 1);
+                Err(error)
+            }
+        }
     }
 
     /// Takes one permit, like [`try_acquire`](Semaphore::try_acquire), by a guard that may go to another thread.
@@ -152,7 +160,10 @@ impl Semaphore {
         let lock = Arc::try_clone(this)?;
         match lock.word.try_permit() {
             Ok(permit) => Ok(Ok(SemaphoreGuardArc::new(Shared { lock, rt }, permit))),
-            Err(error) => Ok(Err(error)),
+            Err(error) => {
+                lock.word.forbear(&rt, 1);
+                Ok(Err(error))
+            }
         }
     }
 
@@ -169,8 +180,13 @@ impl Semaphore {
     ) -> Result<SemaphoreGuard<'a, R>, TryAcquireError>
         ensures all { IfOk result (λ guard. guard ≡ n) }
     {
-        let permit = self.word.try_permits(n as u64)?;
-        Ok(SemaphoreGuard::new(Borrowed { lock: self, rt }, permit))
+        match self.word.try_permits(n as u64) {
+            Ok(permit) => Ok(SemaphoreGuard::new(Borrowed { lock: self, rt }, permit)),
+            Err(error) => {
+                self.word.forbear(rt, n as u64);
+                Err(error)
+            }
+        }
     }
 
     /// Takes `n` permits at once, like [`try_acquire_many`](Semaphore::try_acquire_many), by one guard that may go to another
@@ -189,7 +205,10 @@ impl Semaphore {
         let lock = Arc::try_clone(this)?;
         match lock.word.try_permits(n as u64) {
             Ok(permit) => Ok(Ok(SemaphoreGuardArc::new(Shared { lock, rt }, permit))),
-            Err(error) => Ok(Err(error)),
+            Err(error) => {
+                lock.word.forbear(&rt, n as u64);
+                Ok(Err(error))
+            }
         }
     }
 
@@ -370,7 +389,8 @@ fn granted(taken: Result<Permit, TryAcquireError>) -> Option<Result<Permit, Acqu
     }
 }
 
-// Attempts for a contender with the queue out, and has a contender that finds no permit wait at the end of the queue.
+// Attempts for a contender with the queue out, and has a contender that finds no permit wait at the end of the queue. A newcomer
+// that finds none only because newcomers are shut out is absent: it tries again.
 fn attempt_held<C, X: TaskExchange<Task, C>, R: Wait>(
     rt: &R,
     held: &mut Held<'_, Competing<Permits>, ()>,
@@ -406,6 +426,9 @@ fn attempt_held<C, X: TaskExchange<Task, C>, R: Wait>(
     match held.take_permit(rt, coming.is_notified()) {
         Ok(permit) => Attempted::Done(Ok(permit)),
         Err(TryAcquireError::Closed) => Attempted::Done(Err(AcquireError::Closed)),
+        Err(TryAcquireError::NoPermits) if !coming.is_notified() && held.forbear() => {
+            Attempted::Absent
+        }
         Err(TryAcquireError::NoPermits) => match held.lose(place, losses, arrival, exchange, on) {
             Ok(key) => Attempted::Waits(key),
             Err(error) => Attempted::Refused(error),
