@@ -11,14 +11,14 @@ use Rattle.event_wait.specs.declared.request.Attempted.TheVariants.{Done, Waits,
 use Rattle.event_channel.specs.declared.call.ChannelCall.{ChannelCall}
 use Rattle.event_channel.specs.declared.call.ChannelCall.TheVariants as call
 use Rattle.event_channel.specs.Calls.{LeavesReceivers, LeavesSenders, receiver_key}
-use Rattle.event_channel.specs.Messages.{State, for_newcomers, for_one, room_for_newcomers, room_for_one, room_in}
+use Rattle.event_channel.specs.Messages.{State, due_to_no_other, for_newcomers, for_one, room_for_newcomers, room_for_one, room_in}
 use Rattle.event_channel.specs.Forbearing.{Forbears, ForbearsFor, ForbearsSending, ForbearsSendingFor, ForbearsSendingUnless, ForbearsUnless, ForbearsWithReceiver, ForbearsWithSender, RefusedFor}
 use Rattle.event_channel.specs.declared.error.SendReason.{SendReason}
 use Rattle.event_channel.specs.declared.error.SendReason.TheVariants.{Closed, Full, TimedOut, Memory, WaitFailed}
 use Rattle.event_channel.proofs.ForbearLemmas.{forborne, forborne_for, refused_for, sending_for}
 use Rattle.event_channel.specs.Served.{LosesByThose, NoMoreInVain, NoMoreSendersInVain, OneStarves, SenderLosesByThose, receivers_in_vain, senders_in_vain}
 use Rattle.event_channel.specs.Steps.{Closes, Pushes, Replaces, Takes}
-use Rattle.event_channel.specs.Turns.{CannotWaitInTurn, Starving, is_told, struck_off}
+use Rattle.event_channel.specs.Turns.{CannotWaitInTurn, Starving, is_told, struck_off, told_beside}
 use Rattle.event_channel.specs.Waits.{but_receivers, but_receivers_and_streams, but_senders}
 
 module _ {X : Type 0} where
@@ -158,18 +158,61 @@ module _ {T W : Type 0} where
       let line : after.receivers ≡ before.receivers = ap (λ (s : State T W). s.receivers) leaves.0 ∙ same_line (message ∷ []) before between takes in
       one_out None message before between (length after.messages) after.receivers takes (ap (λ (s : State T W). length s.messages) leaves.0) may line is_open starves.0
 
-  many_out : (message : T) (messages : List T) (before between after : State T W) → Takes (message ∷ []) before between → Takes messages between after → 0 < for_newcomers before → length messages ≤ for_newcomers between
-      → before.is_closed ≡ false → 0 < length before.starving_receivers → receivers_in_vain after ≤ receivers_in_vain before
-  many_out message messages before between after first rest may few is_open starves =
-      let one = shorter (message ∷ []) before between first in
-      let more = shorter messages between after rest in
-      let open_between = same_gate (message ∷ []) before between first ∙ is_open in
-      let keys : length between.starving_receivers ≡ length before.starving_receivers = ap (λ (s : State T W). length s.starving_receivers) first.rest in
-      let there = newcomers_leave between open_between (omega (arith, starves, keys)) in
-      let there_first = newcomers_leave before is_open starves in
-      let told : length between.receivers.told ≡ length before.receivers.told = ap (λ (q : Queue (Unit {0}) W). length q.told) (same_line (message ∷ []) before between first) in
-      let told_after : length after.receivers.told ≡ length between.receivers.told = ap (λ (q : Queue (Unit {0}) W). length q.told) (same_line messages between after rest) in
-      omega (arith, one, more, there, there_first, told, told_after, may, few)
+  -- while one starves in an open channel there is for one beside others what is not due to them
+  others_leave : (key : Option Key) (s : State T W) → s.is_closed ≡ false → 0 < length s.starving_receivers
+      → due_to_no_other key s ≡ length s.messages - told_beside (is_told key s.receivers) (length s.receivers.told)
+  others_leave key s is_open starves = by_keys s.starving_receivers refl
+    where
+      by_keys : (keys : List Starving) → s.starving_receivers ≡ keys → due_to_no_other key s ≡ length s.messages - told_beside (is_told key s.receivers) (length s.receivers.told)
+      by_keys [] is = absurd (let none : length s.starving_receivers ≡ 0 = ap length is in omega (arith, starves, none))
+      by_keys (one ∷ more) is = let some : (length (one ∷ more) == 0) ≡ false = grind arith in rw (is_open, is, some) refl
+
+  -- one took the first message, and the rest that were due to no other, and left the queue
+  many_out : (key : Option Key) (message : T) (messages : List T) (before between taken after : State T W) → Takes (message ∷ []) before between → Takes messages between taken
+      → 0 < for_one key before → length messages ≤ due_to_no_other key between → LeavesReceivers false key taken after → OneStarves before after
+      → receivers_in_vain after ≤ receivers_in_vain before
+  many_out key message messages before between taken after first rest may few leaves starves = by (is_told key before.receivers) refl
+    where
+      one : length before.messages ≡ 1 + length between.messages
+      one = shorter (message ∷ []) before between first
+
+      more : length between.messages ≡ length messages + length taken.messages
+      more = shorter messages between taken rest
+
+      same : length after.messages ≡ length taken.messages
+      same = ap (λ (s : State T W). length s.messages) leaves.0
+
+      is_open : before.is_closed ≡ false
+      is_open = sym (same_gate (message ∷ []) before between first) ∙ sym (same_gate messages between taken rest) ∙ sym (ap (λ (s : State T W). s.is_closed) leaves.0) ∙ starves.1
+
+      open_between : between.is_closed ≡ false
+      open_between = same_gate (message ∷ []) before between first ∙ is_open
+
+      keys : length between.starving_receivers ≡ length before.starving_receivers
+      keys = ap (λ (s : State T W). length s.starving_receivers) first.rest
+
+      line : between.receivers ≡ before.receivers
+      line = same_line (message ∷ []) before between first
+
+      last : LeavesThenTells key (length after.messages) before.receivers after.receivers
+      last = subst (λ (q : Queue (Unit {0}) W). LeavesThenTells key (length after.messages) q after.receivers) (same_line messages between taken rest ∙ line) leaves.1.left
+
+      undue : due_to_no_other key between ≡ length between.messages - told_beside (is_told key before.receivers) (length before.receivers.told)
+      undue =
+          others_leave key between open_between (omega (arith, starves.0, keys))
+          ∙ ap (λ (q : Queue (Unit {0}) W). length between.messages - told_beside (is_told key q) (length q.told)) line
+
+      by : (b : Bool) → is_told key before.receivers ≡ b → receivers_in_vain after ≤ receivers_in_vain before
+      by true told =
+          let there : due_to_no_other key between ≡ length between.messages - (length before.receivers.told - 1) = rw told at undue in
+          let fewer = came_then_told key (length after.messages) before.receivers after.receivers told last in
+          omega (arith, one, more, same, there, few, fewer)
+      by false untold =
+          let there : due_to_no_other key between ≡ length between.messages - length before.receivers.told = rw untold at undue in
+          let some : 0 < for_newcomers before = rw untold at may in
+          let there_first = newcomers_leave before is_open starves.0 in
+          let left_now = left_then_told key (length after.messages) (length after.messages) (length before.receivers.told) before.receivers after.receivers last (omega arith) (omega arith) in
+          omega (arith, one, more, same, there, few, some, there_first, left_now)
 
   waits_still : (key : Option Key) (before : State T W) (line : Queue (Unit {0}) W) (n : ℕ) → line.told ≡ others_of key before.receivers.told → n ≡ length before.messages → length line.told - n ≤ receivers_in_vain before
   waits_still key before line n told same =
@@ -262,11 +305,7 @@ module _ {T W : Type 0} where
       let first = forborne_in_vain_for (receiver_key is_stream key) before h.0 h.1.1 in let last = left is_stream key h.0 after h.2 in omega (arith, first, last)
   no_more_in_vain before after (call.ReceiveMany [] key) h starves = absurd h.1
   no_more_in_vain before after (call.ReceiveMany (message ∷ messages) key) h starves =
-      let some = h.1 in
-      let open_mid = sym (ap (λ (s : State T W). s.is_closed) h.2.0) ∙ starves.1 in
-      let is_open = sym (same_gate (message ∷ []) before some.0 some.1) ∙ sym (same_gate messages some.0 h.0 some.2) ∙ open_mid in
-      let first = many_out message messages before some.0 h.0 some.1 some.2 some.3 some.4 is_open starves.0 in
-      let last = left false key h.0 after h.2 in omega (arith, first, last)
+      let some = h.1 in many_out key message messages before some.0 h.0 after some.1 some.2 some.3 some.4 h.2 starves
   no_more_in_vain before after (call.LeaveReceivers is_stream key) h starves = left is_stream key before after h
   no_more_in_vain before after (call.Close true) h starves = absurd (false≢true (sym starves.1 ∙ closed_by before after h))
   no_more_in_vain before after (call.Close false) h starves = alike before after h.1

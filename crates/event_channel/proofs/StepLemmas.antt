@@ -1,6 +1,6 @@
 -- What a function of the state does, as a call of a history.
 use Rattle.std.proofs.Common.{◌≡◌, ◌⊎◌, ◌+◌, ◌<◌, ◌≤◌, ◌==◌, ◌||◌, ℕ, suc, min, take, arith, Bool, true, false, List, [], ◌∷◌, length, refl, sym, ap, ◌∙◌, subst, inl, inr, Option, Some, None, Result, Ok, Err, IfOk, IfErr}
-use Rattle.std.specs.Prelude.{◌↔◌, OnErr, OnOk, IsTrue, IsFalse}
+use Rattle.std.specs.Prelude.{◌↔◌, OnErr, OnOk, IfSome, IsTrue, IsFalse}
 use Rattle.std.proofs.lemmas.Bool.{false≢true}
 use Rattle.std.proofs.lemmas.List.{length-take-le}
 use Rattle.event_queue.specs.declared.key.Key.{Key}
@@ -18,14 +18,15 @@ use Rattle.event_channel.specs.declared.error.SendReason.TheVariants.{Full}
 use Rattle.event_channel.specs.declared.error.TryRecvError.{TryRecvError}
 use Rattle.event_channel.specs.declared.error.TryRecvError.TheVariants.{Empty, Closed}
 use Rattle.event_channel.specs.Forbearing.{Forbears, ForbearsFor, ForbearsUnless, RefusedFor}
-use Rattle.event_channel.specs.Messages.{State, for_newcomers, room_for_newcomers, room_for_one}
+use Rattle.event_channel.specs.Messages.{State, due_to_no_other, for_newcomers, for_one, room_for_newcomers, room_for_one}
 use Rattle.event_channel.proofs.PlaceLemmas.{Moves}
 use Rattle.event_channel.proofs.TurnLemmas.{most_for_newcomers}
 use Rattle.event_channel.specs.Places.{Place, receiver_at, sender_at}
-use Rattle.event_channel.specs.Steps.{Pushes, Refuses, RefusesAt, Forces, Takes, IsEmptyFor, Closes}
+use Rattle.event_channel.specs.Steps.{Pushes, Refuses, RefusesAt, Forces, Takes, FindsNone, IsEmptyFor, Closes}
+use Rattle.event_channel.specs.Turns.{is_told, told_beside}
 use Rattle.event_channel.specs.Waits.{Received, Receives, ReceivesInTurn, SendsInTurn, Sent}
-use Rattle.event_channel.specs.Calls.{ClosesOnce, ForcesOne, LeavesReceivers, LeavesSenders, ReceivesOne as DoesReceive, SendsOne, answer_of, calls, received_at_once, receiver_key, sent_at_once, with_any_task}
-use Rattle.event_channel.specs.Requests.{GivesUpReceiving, GivesUpSending, ReceivesMany, ReceivesOne, ReceivesOrLeaves, ReceivesOrWaits, SendsOrLeaves, SendsOrWaits, TriesToReceive, TriesToSend}
+use Rattle.event_channel.specs.Calls.{ClosesOnce, ForcesOne, LeavesReceivers, LeavesSenders, ReceivesOne as DoesReceive, SendsOne, TakesMany, answer_of, calls, received_at_once, receiver_key, sent_at_once, with_any_task}
+use Rattle.event_channel.specs.Requests.{GivesUpReceiving, GivesUpSending, ReceivesMany, ReceivesOrLeaves, ReceivesOrWaits, SendsOrLeaves, SendsOrWaits, TriesToReceive, TriesToSend}
 
 one_more : (n : ℕ) → suc n ≡ 1 + n
 one_more n = omega arith
@@ -163,22 +164,19 @@ module _ {T W : Type 0} where
       rw same (call.ReceiveOrLeave is_stream key (received_at_once answer), (key, refl), (refl, refl), (between, does, left))
 
   -- where it found the end nothing changed, whoever it is
-  at_the_end : (key : Option Key) (old new : State T W) → DoesReceive None (Err Closed) old new → ForbearsFor key old new
-  at_the_end None old new h = h.1
-  at_the_end (Some key) old new h = subst (λ (none : Bool). ForbearsUnless none old new) (ap (λ (ms : List T). length ms == 0) h.0.0) h.1
+  at_the_end : (key : Option Key) (old new : State T W) → old.messages ≡ [] → new ≡ old → ForbearsFor key old new
+  at_the_end None old new none same = subst (λ (none : Bool). ForbearsUnless none old new) (sym (ap (λ (ms : List T). length ms == 0) none)) same
+  at_the_end (Some key) old new none same = same
 
-  pub many_then_leaves : (answer : Option (Option ℕ)) (key : Option Key) (old between new : State T W)
-      → (c : ChannelCall T) × ReceivesMany None answer c × calls old c between → (answer ≡ None → between ≡ old) → LeavesReceivers false key between new
-      → (c : ChannelCall T) × ReceivesMany key answer c × calls old c new
-  many_then_leaves None key old between new made nothing left =
-      (call.LeaveReceivers false key, inr refl, subst (λ (s : State T W). LeavesReceivers false key s new) (nothing refl) left)
-  many_then_leaves (Some None) key old between new (c, is, does) nothing left =
-      let h = subst (λ (c : ChannelCall T). calls old c between) is does in
-      let mid = left_none false h.0 between h.2 in
-      (call.ReceiveOrLeave false key (Err Closed), refl, (h.0, (h.1.0, at_the_end key old h.0 h.1), subst (λ (s : State T W). LeavesReceivers false key s new) mid left))
-  many_then_leaves (Some (Some count)) key old between new (c, is, does) nothing left =
-      let h = subst (λ (c : ChannelCall T). calls old c between) is.2 does in
-      (call.ReceiveMany is.0 key, (is.0, is.1, refl), (h.0, h.1, subst (λ (s : State T W). LeavesReceivers false key s new) (left_none false h.0 between h.2) left))
+  made_many : (output : Option ℕ) (key : Option Key) (old between new : State T W) → TakesMany key output old between → LeavesReceivers false key between new
+      → (c : ChannelCall T) × ReceivesMany key (Some output) c × calls old c new
+  made_many None key old between new (none, closed, same) left =
+      (call.ReceiveOrLeave false key (Err Closed), refl, (between, ((none, closed), at_the_end key old between none same), left))
+  made_many (Some count) key old between new (messages, many, does) left = (call.ReceiveMany messages key, (messages, many, refl), (between, does, left))
+
+  -- one that is in no queue leaves none
+  in_none : (state : State T W) → LeavesReceivers false None state state
+  in_none state = (refl, record { left = refl; struck = refl; streams = refl })
 
   pub gives_up_sending : (before : Option T) (key : Option Key) (old new : State T W) → LeavesSenders key old new → (c : ChannelCall T) × GivesUpSending before c × Moves (sender_at key) c None × calls old c new
   gives_up_sending before key old new left = (call.LeaveSenders key, (key, refl), (refl, refl), left)
@@ -187,12 +185,9 @@ module _ {T W : Type 0} where
       → (c : ChannelCall T) × GivesUpReceiving before c × Moves (receiver_at before key) c None × calls old c new
   gives_up_receiving before is_stream key old new same left = rw same (call.LeaveReceivers is_stream key, (key, refl), (refl, refl), left)
 
-  -- one that is to receive many found none, and nobody is refused
+  -- one that is to receive many has no room for any
   pub many_without_room : (state : State T W) → (c : ChannelCall T) × ReceivesMany None None c × calls state c state
-  many_without_room state = (call.LeaveReceivers false None, inr refl, (refl, record { left = refl; struck = refl; streams = refl }))
-
-  pub many_found_none : (old new : State T W) → new ≡ old → (c : ChannelCall T) × ReceivesMany None None c × calls old c new
-  many_found_none old new same = subst (λ (s : State T W). (c : ChannelCall T) × ReceivesMany None None c × calls old c s) (sym same) (many_without_room old)
+  many_without_room state = (call.LeaveReceivers false None, inr refl, in_none state)
 
   pub many_of_none : (old new : State T W) (why : TryRecvError) → why ≡ Empty → IsEmptyFor old why → Forbears old new → (c : ChannelCall T) × ReceivesMany None None c × calls old c new
   many_of_none old new why is empty left = (call.ReceiveOrLeave false None (Err Empty), inl refl, (new, (subst (λ (w : TryRecvError). IsEmptyFor old w) is empty, left), (refl, record { left = refl; struck = refl; streams = refl })))
@@ -200,19 +195,22 @@ module _ {T W : Type 0} where
   pub many_at_the_end : (old new : State T W) (why : TryRecvError) → why ≡ Closed → IsEmptyFor old why → Forbears old new → (c : ChannelCall T) × ReceivesMany None (Some None) c × calls old c new
   many_at_the_end old new why is empty left = (call.ReceiveOrLeave false None (Err Closed), refl, (new, (subst (λ (w : TryRecvError). IsEmptyFor old w) is empty, left), (refl, record { left = refl; struck = refl; streams = refl })))
 
-  pub many_taken : (old between new : State T W) (message : T) (count limit room : ℕ) → Takes (message ∷ []) old between → 0 < for_newcomers old
-      → count ≡ min limit (min room (for_newcomers between)) → Takes (take count between.messages) between new
-      → (c : ChannelCall T) × ReceivesMany None (Some (Some (1 + count))) c × calls old c new
-  many_taken old between new message count limit room first may counted rest =
-      let there = for_newcomers between in
-      let few : there ≤ length between.messages = most_for_newcomers (between.is_closed || length between.starving_receivers == 0) (length between.receivers.told) (length between.messages) in
+  pub many_taken : (key : Option Key) (old between new : State T W) (message : T) (count limit room : ℕ) → Takes (message ∷ []) old between → 0 < for_one key old
+      → count ≡ min limit (min room (due_to_no_other key between)) → Takes (take count between.messages) between new
+      → TakesMany key (Some (1 + count)) old new
+  many_taken key old between new message count limit room first may counted rest =
+      let there = due_to_no_other key between in
+      let few : there ≤ length between.messages = most_for_newcomers (between.is_closed || length between.starving_receivers == 0) (told_beside (is_told key between.receivers) (length between.receivers.told)) (length between.messages) in
       let some : count ≤ there = omega (arith, counted) in
       let taken : length (take count between.messages) ≡ count = length-take-le count between.messages (omega (arith, some, few)) in
-      let size : length (message ∷ take count between.messages) ≡ 1 + count = ap suc taken ∙ one_more count in (
-        call.ReceiveMany (message ∷ take count between.messages) None,
-        (message ∷ take count between.messages, size, refl),
-        (new, (between, first, rest, may, subst (λ (n : ℕ). n ≤ there) (sym taken) some), (refl, record { left = refl; struck = refl; streams = refl })),
-      )
+      let size : length (message ∷ take count between.messages) ≡ 1 + count = ap suc taken ∙ one_more count in
+      (message ∷ take count between.messages, size, (between, first, rest, may, subst (λ (n : ℕ). n ≤ there) (sym taken) some))
+
+  pub none_will_come : (key : Option Key) (old new : State T W) (why : TryRecvError) → why ≡ Closed → FindsNone (for_one key old) old why → new ≡ old → TakesMany key None old new
+  none_will_come key old new why is empty same = let h = subst (λ (w : TryRecvError). FindsNone (for_one key old) old w) is empty in (h.0, h.1, same)
+
+  pub many_tried_and_taken : (count : ℕ) (old new : State T W) → TakesMany None (Some count) old new → (c : ChannelCall T) × ReceivesMany None (Some (Some count)) c × calls old c new
+  many_tried_and_taken count old new taken = made_many (Some count) None old new new taken (in_none new)
 
   -- by no place, where it only tries
   pub many_tried : (old new : State T W) (answer : Option (Option ℕ)) → (c : ChannelCall T) × ReceivesMany None answer c × calls old c new
@@ -220,37 +218,37 @@ module _ {T W : Type 0} where
   many_tried old new answer (c, is, does) = (c, is, many_move None answer c is, does)
 
   pub many_taken_then_leaves : (output : Option ℕ) (key : Option Key) (old between new : State T W)
-      → (c : ChannelCall T) × ReceivesMany None (Some output) c × calls old c between → LeavesReceivers false key between new
-      → (c : ChannelCall T) × ((key : Option Key) × (ReceivesMany key (Some output) c ⊎ ReceivesOne key output c)) × Moves (receiver_at false key) c None × calls old c new
+      → TakesMany key output old between → LeavesReceivers false key between new
+      → (c : ChannelCall T) × ((key : Option Key) × ReceivesMany key (Some output) c) × Moves (receiver_at false key) c None × calls old c new
   many_taken_then_leaves output key old between new taken left =
-      let (c, is, does) = many_then_leaves (Some output) key old between new taken (λ none. absurd (cc)) left in (c, (key, inl is), many_move key (Some output) c is, does)
+      let (c, is, does) = made_many output key old between new taken left in (c, (key, is), many_move key (Some output) c is, does)
 
   pub many_or_leaves : (answer : Option (Option ℕ)) (key : Option Key) (old between new : State T W)
-      → (c : ChannelCall T) × ReceivesMany None answer c × calls old c between → (answer ≡ None → between ≡ old) → LeavesReceivers false key between new
+      → IfSome answer (λ output. TakesMany key output old between) → (answer ≡ None → between ≡ old) → LeavesReceivers false key between new
       → (c : ChannelCall T) × ((key : Option Key) × ReceivesMany key answer c) × Moves (receiver_at false key) c None × calls old c new
-  many_or_leaves answer key old between new taken nothing left =
-      let (c, is, does) = many_then_leaves answer key old between new taken nothing left in (c, (key, is), many_move key answer c is, does)
-
-  pub many_leaves : (key : Option Key) (old between new : State T W)
-      → between ≡ old → LeavesReceivers false key between new
-      → (c : ChannelCall T) × ((key : Option Key) × (((Memory ≡ Memory) × (c ≡ call.LeaveReceivers false key)) ⊎ (c ≡ call.ReceiveOrWait false key (Refused Memory)))) × Moves (receiver_at false key) c None × calls old c new
-  many_leaves key old between new nothing left =
-      (call.LeaveReceivers false key, (key, inl (refl, refl)), (refl, refl), subst (λ (s : State T W). LeavesReceivers false key s new) nothing left)
+  many_or_leaves (Some output) key old between new taken nothing left = many_taken_then_leaves output key old between new taken left
+  many_or_leaves None key old between new taken nothing left =
+      (call.LeaveReceivers false key, (key, inr refl), (refl, refl), subst (λ (s : State T W). LeavesReceivers false key s new) (nothing refl) left)
 
   waits_from : (old between new : State T W) (key : Option Key) (answer : Received T) → between ≡ old → calls between (call.ReceiveOrWait false key answer) new → calls old (call.ReceiveOrWait false key answer) new
   waits_from old between new key answer nothing does = subst (λ (s : State T W). calls s (call.ReceiveOrWait false key answer) new) nothing does
 
-  pub one_taken : (old between new : State T W) (key : Option Key) (output : Option T) (message : T) → output ≡ Some message
-      → between ≡ old → calls between (call.ReceiveOrWait false key (Done output)) new
-      → (c : ChannelCall T) × ((key : Option Key) × (ReceivesMany key (Some (Some 1)) c ⊎ ReceivesOne key (Some 1) c)) × Moves (receiver_at false key) c None × calls old c new
-  one_taken old between new key output message is nothing does =
-      (call.ReceiveOrWait false key (Done (Some message)), (key, inr (refl, message, refl)), (refl, refl), waits_from old between new key (Done (Some message)) nothing (subst (λ (o : Option T). calls between (call.ReceiveOrWait false key (Done o)) new) is does))
+  -- one that found none does not have any where it is to wait
+  pub none_there : (key : Option Key) (old between new : State T W) (output : Option T) → FindsNone (for_one key old) old Empty → between ≡ old
+      → calls between (call.ReceiveOrWait false key (Done output)) new → ⊥
+  none_there key old between new output none nothing does = by output (waits_from old between new key (Done output) nothing does)
+    where
+      by : (output : Option T) → calls old (call.ReceiveOrWait false key (Done output)) new → ⊥
+      by (Some message) (losses, losses', h) = let some = h.0 in let no = none.0 in omega (arith, some, no)
+      by None (losses, losses', h) = false≢true (sym none.1 ∙ h.1)
 
-  pub no_more_come : (old between new : State T W) (key : Option Key) (output : Option T) → output ≡ None
-      → between ≡ old → calls between (call.ReceiveOrWait false key (Done output)) new
-      → (c : ChannelCall T) × ((key : Option Key) × (ReceivesMany key (Some None) c ⊎ ReceivesOne key None c)) × Moves (receiver_at false key) c None × calls old c new
-  no_more_come old between new key output is nothing does =
-      (call.ReceiveOrWait false key (Done None), (key, inr refl), (refl, refl), waits_from old between new key (Done None) nothing (subst (λ (o : Option T). calls between (call.ReceiveOrWait false key (Done o)) new) is does))
+  pub many_leaves_late : (key : Option Key) (old new : State T W) → LeavesReceivers false key old new
+      → (c : ChannelCall T) × ((key : Option Key) × ReceivesMany key None c) × Moves (receiver_at false key) c None × calls old c new
+  many_leaves_late key old new left = (call.LeaveReceivers false key, (key, inr refl), (refl, refl), left)
+
+  pub many_leaves : (key : Option Key) (old new : State T W) → LeavesReceivers false key old new
+      → (c : ChannelCall T) × ((key : Option Key) × (((Memory ≡ Memory) × (c ≡ call.LeaveReceivers false key)) ⊎ (c ≡ call.ReceiveOrWait false key (Refused Memory)))) × Moves (receiver_at false key) c None × calls old c new
+  many_leaves key old new left = (call.LeaveReceivers false key, (key, inl (refl, refl)), (refl, refl), left)
 
   pub many_waits : (old between new : State T W) (before : Option Key) (key : Key)
       → between ≡ old → calls between (call.ReceiveOrWait false before (Waits key)) new

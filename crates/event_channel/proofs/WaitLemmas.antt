@@ -141,10 +141,8 @@ module _ {T : Type 0} where
   many_leave key (Some None) c is = ap left_at is
   many_leave key (Some (Some count)) c (messages, many, is) = ap left_at is
 
-  many_or_one_leaves : (many : Many T) (output : Option ℕ) (c : ChannelCall T) → ReceivesManyOrWaits many (Done output) c → left_at c ≡ None
-  many_or_one_leaves many output c (key, inl is) = many_leave key (Some output) c is
-  many_or_one_leaves many None c (key, inr is) = ap left_at is
-  many_or_one_leaves many (Some count) c (key, inr (one, message, is)) = ap left_at is
+  many_received : (many : Many T) (output : Option ℕ) (c : ChannelCall T) → ReceivesManyOrWaits many (Done output) c → left_at c ≡ None
+  many_received many output c (key, is) = many_leave key (Some output) c is
 
 module _ {T W : Type 0} (capacity : Option ℕ) (may_end : Type 0) where
   pub sender_waits_nowhere : (before : Asking (Option T) × View (State T W) (ChannelCall T)) (result : Result (Option (Result (Unit {0}) SendReason)) (Refused ListenError)) (after : Asking (Option T) × View (State T W) (ChannelCall T))
@@ -166,4 +164,4 @@ module _ {T W : Type 0} (capacity : Option ℕ) (may_end : Type 0) where
       → WaitsAt (receiver_at false after.0.key) after.1.mine → WaitsNowhere after.1.mine
   many_wait_nowhere =
       waits_nowhere (channel_machine capacity) ReceivesManyOrWaits (NotRefused ReceivesManyOrLeaves) TriesToReceiveMany GivesUpReceivingMany Collects (LeavesBy Collects) may_end
-      (λ q. receiver_at false q.key) (λ q out. nowhere_to_receive false q.key out) many_or_one_leaves (λ a output c h. many_leave None (Some output) c h) (λ a answer c h. many_leave h.0 answer c h.1)
+      (λ q. receiver_at false q.key) (λ q out. nowhere_to_receive false q.key out) many_received (λ a output c h. many_leave None (Some output) c h) (λ a answer c h. many_leave h.0 answer c h.1)

@@ -10,7 +10,7 @@ use Rattle.event_channel.specs.declared.error.SendReason.{SendReason}
 use Rattle.event_channel.specs.declared.error.SendReason.TheVariants.{Full}
 use Rattle.event_channel.specs.declared.error.TryRecvError.{TryRecvError}
 use Rattle.event_channel.specs.declared.error.TryRecvError.TheVariants.{Empty, Closed}
-use Rattle.event_channel.specs.Messages.{State, IsFull, for_newcomers, for_one, limit_of, new_state, room_for_one}
+use Rattle.event_channel.specs.Messages.{State, IsFull, due_to_no_other, for_one, limit_of, new_state, room_for_one}
 use Rattle.event_channel.specs.Forbearing.{ForbearsFor, RefusedFor}
 use Rattle.event_channel.specs.Steps.{Pushes, Refuses, RefusesAt, Forces, Takes, FindsNone, Closes, KeepsAllButSenders, KeepsAllButReceivers, KeepsAllButStreams}
 use Rattle.event_channel.specs.Waits.{ReceiverLeaves, Receives, ReceivesInTurn, Received, SenderLeaves, SendsInTurn}
@@ -66,13 +66,18 @@ module _ {T W : Type 0} where
   ReceivesOne key (Ok message) before after = Takes (message ∷ []) before after × (0 < for_one key before)
   ReceivesOne key (Err error) before after = FindsNone (for_one key before) before error × ForbearsFor key before after
 
-  -- these messages were in front of all others, and there for newcomers: senders are notified of the first, and then of the
-  -- rest
-  abbrev pub ReceivesSome : List T → State T W → State T W → Type 0
-  ReceivesSome [] before after = ⊥
-  ReceivesSome (message ∷ messages) before after =
+  -- these messages were in front of all others: the first was there for this one, which may have a place in the queue, and the
+  -- rest were due to no other. Senders are notified of the first, and then of the rest.
+  abbrev pub ReceivesSome : List T → Option Key → State T W → State T W → Type 0
+  ReceivesSome [] key before after = ⊥
+  ReceivesSome (message ∷ messages) key before after =
       (between : State T W) × Takes (message ∷ []) before between × Takes messages between after
-      × (0 < for_newcomers before) × (length messages ≤ for_newcomers between)
+      × (0 < for_one key before) × (length messages ≤ due_to_no_other key between)
+
+  -- this one, which is to receive many, took so many; or none will come
+  abbrev pub TakesMany : Option Key → Option ℕ → State T W → State T W → Type 0
+  TakesMany key (Some count) before after = (messages : List T) × (length messages ≡ count) × ReceivesSome messages key before after
+  TakesMany key None before after = (before.messages ≡ []) × (before.is_closed ≡ true) × (after ≡ before)
 
   -- this one, if it is one, left the queue of the senders, and another is notified in its place if one is due
   abbrev pub LeavesSenders : Option Key → State T W → State T W → Type 0
@@ -109,7 +114,7 @@ module _ {T W : Type 0} where
   calls before (call.ReceiveOrLeave is_stream key reply) after =
       (between : State T W) × ReceivesOne (receiver_key is_stream key) reply before between × LeavesReceivers is_stream key between after
   calls before (call.ReceiveMany messages key) after =
-      (between : State T W) × ReceivesSome messages before between × LeavesReceivers false key between after
+      (between : State T W) × ReceivesSome messages key before between × LeavesReceivers false key between after
   calls before (call.LeaveReceivers is_stream key) after = LeavesReceivers is_stream key before after
   calls before (call.Close closed) after = ClosesOnce closed before after
   calls before (call.IsClosed answer) after = (answer ≡ before.is_closed) × (after ≡ before)

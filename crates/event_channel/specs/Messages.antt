@@ -2,7 +2,7 @@
 use Rattle.std.specs.Prelude.{◌≡◌, ℕ, ◌+◌, ◌<◌, ◌≤◌, ◌^◌, ◌-◌, ◌==◌, ◌||◌, Bool, true, false, List, [], length, Option, Some, None}
 use Rattle.event_queue.specs.declared.key.Key.{Key}
 use Rattle.event_queue.specs.Queue.{Queue}
-use Rattle.event_channel.specs.Turns.{Starving, is_told, left_for_newcomers}
+use Rattle.event_channel.specs.Turns.{Starving, is_told, left_for_newcomers, told_beside}
 
 -- the messages, first the one that is received next; how many there may be at most; whether the channel is closed; and the
 -- queues of those that wait: to send, to receive one message, and to receive all as a stream; and the senders and the receivers
@@ -58,6 +58,12 @@ module _ {T W : Type 0} where
   -- how many there are for this one, by its place in the queue of the receivers
   abbrev pub for_one : Option Key → State T W → ℕ
   for_one key s = there_for (is_told key s.receivers) s
+
+  -- how many of them are due to no receiver beside this one: all, if the channel is closed or no receiver starves
+  abbrev pub due_to_no_other : Option Key → State T W → ℕ
+  due_to_no_other key s =
+      left_for_newcomers (s.is_closed || length s.starving_receivers == 0)
+      (told_beside (is_told key s.receivers) (length s.receivers.told)) (length s.messages)
 
   -- a receiver starves, and as many are notified as there are messages: each is due to one of them, and none is there for
   -- newcomers

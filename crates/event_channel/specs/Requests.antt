@@ -53,13 +53,8 @@ module _ {T : Type 0} where
   abbrev pub TriesToReceiveMany : Many T → Option (Option ℕ) → ChannelCall T → Type 0
   TriesToReceiveMany many answer c = ReceivesMany None answer c
 
-  -- it got one message where it was to wait, and no more
-  abbrev pub ReceivesOne : Option Key → Option ℕ → ChannelCall T → Type 0
-  ReceivesOne key None c = c ≡ call.ReceiveOrWait false key (Done None)
-  ReceivesOne key (Some count) c = (count ≡ 1) × (message : T) × (c ≡ call.ReceiveOrWait false key (Done (Some message)))
-
   abbrev pub ReceivesManyOrWaits : Many T → Attempted (Option ℕ) ListenError → ChannelCall T → Type 0
-  ReceivesManyOrWaits many (Done output) c = (key : Option Key) × (ReceivesMany key (Some output) c ⊎ ReceivesOne key output c)
+  ReceivesManyOrWaits many (Done output) c = (key : Option Key) × ReceivesMany key (Some output) c
   ReceivesManyOrWaits many (Waits waits) c = (key : Option Key) × (c ≡ call.ReceiveOrWait false key (Waits waits))
   ReceivesManyOrWaits many Absent c = (key : Option Key) × (c ≡ call.ReceiveOrWait false key Absent)
   ReceivesManyOrWaits many (Refused error) c =

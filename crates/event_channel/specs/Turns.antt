@@ -1,43 +1,15 @@
 -- Those in a queue that starve: each was notified and found nothing, twice at least.
-use Rattle.std.specs.Prelude.{◌≡◌, ◌⊎◌, ℕ, ◌+◌, ◌-◌, ◌*◌, ◌^◌, ◌≤◌, ◌==◌, min, not, Bool, true, false, if◌then◌else◌, Option, Some, None, is_some, List, [], ◌∷◌, ◌++◌, filter}
+use Rattle.std.specs.Prelude.{◌≡◌, ◌⊎◌, ℕ, ◌+◌, ◌-◌, ◌≤◌, min, Bool, true, false, if◌then◌else◌, Option, Some, None, is_some, List, [], ◌∷◌, ◌++◌}
 use Rattle.std.specs.Map.{lookup}
 use Rattle.event_queue.specs.declared.key.Key.{Key}
 use Rattle.event_queue.specs.declared.reply.ListenError.{ListenError}
 use Rattle.event_queue.specs.declared.reply.ListenError.TheVariants.{Memory}
 use Rattle.event_queue.specs.Key.{is_key}
 use Rattle.event_queue.specs.Queue.{Queue}
+pub use Rattle.event_wait.specs.Starving.{Starving, but, forborne_with, less_forborne, refusals_for, struck_off}
 use Rattle.event_wait.specs.Line.{CannotWait, Leaves, WaitsBy, waits_untold}
 use Rattle.event_wait.specs.declared.request.Attempted.{Attempted}
 use Rattle.event_wait.specs.declared.request.Attempted.TheVariants.{Done, Waits, Absent, Refused}
-
--- one that starves, and for how many newcomers beside the last it is forborne with: so many are refused for its sake
-abbrev pub Starving : Type 0
-Starving = Key × ℕ
-
--- those that starve but this one, if it is one
-abbrev pub but : Option Key → List Starving → List Starving
-but None starving = starving
-but (Some key) starving = filter (λ one. not (is_key key one.0)) starving
-
--- for how many newcomers beside the last one is forborne with that has lost so often: 64 with it, twice as many after each loss more,
--- and a million at most
-abbrev pub forborne_with : ℕ → ℕ
-forborne_with losses = 64 * 2 ^ min (losses - 2) 14 - 1
-
--- the first of those that starve once a newcomer was refused for its sake: forborne with for one fewer
-abbrev pub less_forborne : List Starving → List Starving
-less_forborne [] = []
-less_forborne (one ∷ others) = (one.0, one.1 - 1) ∷ others
-
--- the first, if that newcomer is the last one
-abbrev pub struck_off : List Starving → Option Key
-struck_off [] = None
-struck_off (one ∷ others) = if one.1 == 0 then Some one.0 else None
-
--- how many newcomers are refused at most for the sake of these
-abbrev pub refusals_for : List Starving → ℕ
-refusals_for [] = 0
-refusals_for (one ∷ others) = one.1 + 1 + refusals_for others
 
 -- those that starve once one that was notified is in the queue no more; one that was not is not there
 abbrev pub struck : Bool → Option Key → List Starving → List Starving
@@ -52,6 +24,11 @@ losses_with true losses = min (losses + 1) 4294967295
 -- how much of this is there for newcomers: all, or what is not due to those that are notified
 abbrev pub left_for_newcomers : Bool → ℕ → ℕ → ℕ
 left_for_newcomers all_is told there = if all_is then there else there - told
+
+-- how many are notified beside this one, which is one of them or is not
+abbrev pub told_beside : Bool → ℕ → ℕ
+told_beside true told = told - 1
+told_beside false told = told
 
 -- One found nothing, and waits by this key now. If it was notified it has lost once more, and is counted among those that
 -- starve if that is twice at least. One that was not is counted as it was.

@@ -244,6 +244,7 @@ impl<T: Drop> Channel<T> {
     }
 
     /// Takes a sender out of the queue of the senders, if the sender is there.
+    #[inline(always)]
     pub(crate) fn stop_sending<R: Wait>(
         &self,
         rt: &R,
@@ -255,16 +256,49 @@ impl<T: Drop> Channel<T> {
         ensures hand { SameTable hand.old hand.new }
         ensures nowhere { WaitsNowhere (known_by hand.new).mine }
     {
+        if sending.has_no_place() {
+            return;
+        }
+        self.leave_senders(rt, hand, sending);
+    }
+
+    // Takes a sender out of its queue. This is a function of its own, because most sends are done before they are dropped.
+    #[cold]
+    #[inline(never)]
+    fn leave_senders<R: Wait>(&self, rt: &R, hand: &mut LockHand<T>, sending: &mut Sending<T>)
+        requires hand { IsOf self.now.lock.table hand.old }
+        requires waits { WaitsAt (sender_at sending.old.key) (known_by hand.old).mine }
+        ensures hand { SameTable hand.old hand.new }
+        ensures nowhere { WaitsNowhere (known_by hand.new).mine }
+    {
         self.lock.give_up(rt, hand, sending);
     }
 
     /// Takes a receiver or stream out of its queue, if the receiver or stream is there.
+    #[inline(always)]
     pub(crate) fn stop_receiving<R: Wait>(
         &self,
         rt: &R,
         hand: &mut LockHand<T>,
         receiving: &mut Receiving,
     )
+        requires hand { IsOf self.now.lock.table hand.old }
+        requires waits { WaitsAt (receiver_at receiving.old.asked receiving.old.key)
+            (known_by hand.old).mine }
+        ensures hand { SameTable hand.old hand.new }
+        ensures nowhere { WaitsNowhere (known_by hand.new).mine }
+    {
+        if receiving.has_no_place() {
+            return;
+        }
+        self.leave_receivers(rt, hand, receiving);
+    }
+
+    // Takes a receiver or stream out of its queue. This is a function of its own, because most receives are done before they are
+    // dropped.
+    #[cold]
+    #[inline(never)]
+    fn leave_receivers<R: Wait>(&self, rt: &R, hand: &mut LockHand<T>, receiving: &mut Receiving)
         requires hand { IsOf self.now.lock.table hand.old }
         requires waits { WaitsAt (receiver_at receiving.old.asked receiving.old.key)
             (known_by hand.old).mine }

@@ -25,12 +25,13 @@ pub use call::{ChannelCall, ChannelHand};
 pub use channel::ChannelError;
 pub use error::{RecvError, RecvTimeoutError, SendError, SendReason, TryRecvError, WaitError};
 pub use event_wait::Task;
+pub use event_wait::starving::{FORBEARANCE, PATIENCE};
 pub use iter::{Iter, TryIter};
 pub use laws::{
     capacity_is_kept, newcomers_go_on, no_message_is_lost, sent_is_known,
     sent_is_received_in_order, starving_receivers_are_served, starving_senders_are_served,
 };
-pub use messages::{FORBEARANCE, Messages, PATIENCE, received_in_order};
+pub use messages::{Messages, received_in_order};
 pub use receiver::{Receiver, WeakReceiver};
 pub use recv::Recv;
 pub use send::Send;

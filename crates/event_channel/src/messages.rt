@@ -5,7 +5,7 @@ ghost use Rattle.std.specs.VecDeque.{deque_capacity};
 ghost use Rattle.event_wait.specs.Line.{woken_at_once};
 ghost use Rattle.event_channel.specs.Errors.{IsUnsent, IsUnsentAtOnce};
 ghost use Rattle.event_channel.specs.Forbearing.{Forbears, ForbearsSending, ReceiverStruckOff, RefusedFor, SenderStruckOff, woken_by_forbearing, woken_by_forbearing_sending, woken_by_refusal_for, woken_by_striking, woken_by_striking_sender};
-ghost use Rattle.event_channel.specs.Messages.{NobodyWaitsInVain, IsFull, for_newcomers, for_one, limit_of, new_state, room_for_newcomers, room_for_one, room_in};
+ghost use Rattle.event_channel.specs.Messages.{NobodyWaitsInVain, IsFull, due_to_no_other, for_newcomers, for_one, limit_of, new_state, room_for_newcomers, room_for_one, room_in};
 ghost use Rattle.event_channel.specs.Order.{IsReceivedInOrder};
 ghost use Rattle.event_channel.specs.Steps.{Pushes, Refuses, RefusesAt, Forces, Takes, FindsNone, IsEmptyFor, Closes, woken_by_forcing, woken_by_pushing, woken_by_taking};
 ghost use Rattle.event_channel.specs.Turns.{is_told};
@@ -15,12 +15,12 @@ mod waits;
 
 use crate::error::{SendError, SendReason, TryRecvError};
 use event_queue::{Key, List, WakeSink};
+use event_wait::starving::forbear;
 use event_wait::waiters::{tell_all, tell_more};
 use std::alloc::{AllocError, AllocFailed, Global};
 use std::collections::VecDeque;
 use std::marker::Model;
-pub use turns::{FORBEARANCE, PATIENCE};
-use turns::{forbear, is_told, left_for_newcomers, strike};
+use turns::{due_to_no_other, is_told, left_for_newcomers, strike};
 pub(crate) use waits::put_back;
 
 /// The state of a channel, with no lock and no thread: the messages that were sent and not received, first the one that is
@@ -33,12 +33,12 @@ pub(crate) use waits::put_back;
 /// notifies one more receiver and all streams, so a waiter that was notified before and does not try keeps the message from
 /// nobody for good. A message that is taken notifies senders in the same way.
 ///
-/// A receiver that was notified and found nothing [`PATIENCE`] times starves. While a receiver in the queue starves, newcomers
+/// A receiver that was notified and found nothing [`PATIENCE`](crate::PATIENCE) times starves. While a receiver in the queue starves, newcomers
 /// take only messages that are not due to notified receivers: as many as there are more messages than notified receivers. A
 /// stream is a newcomer. The same holds of senders and places. A forced send takes any place.
 ///
 /// The number of newcomers that are refused for a starving waiter has a bound, so that a waiter that does not try again stops
-/// nobody for good. The first of the starving waiters is struck off when [`FORBEARANCE`] newcomers were refused though a
+/// nobody for good. The first of the starving waiters is struck off when [`FORBEARANCE`](crate::FORBEARANCE) newcomers were refused though a
 /// message or place was there, or twice as many for each time that the waiter lost since it began to starve. From then on that
 /// waiter does not starve. If it was notified it also leaves the queue, and the next waiter is notified in its place: when the
 /// waiter that was struck off tries again, it is a newcomer. The last of the counted newcomers is refused, too. No newcomer
@@ -166,7 +166,30 @@ impl<T, W: Drop> Messages<T, W> {
         ensures due { IfErr result (λ error. error.reason ≡ SendReason.Full
             → room_in self.old ≤ length self.old.senders.told) }
     {
-        if self.starving_senders.len() != 0 && self.places_are_due() {
+        if self.starving_senders.len() != 0 {
+            return self.push_in_turn(message, sink);
+        }
+        self.push_any(message, sink)
+    }
+
+    // Sends as `push` does, where a sender starves.
+    #[cold]
+    #[inline(never)]
+    fn push_in_turn<S: WakeSink<W>>(&mut self, message: T, sink: &mut S) -> Result<(), SendError<T>>
+        ensures pushed { IfOk result (λ _. Pushes message self.old self.new) }
+        ensures may { OnOk result (0 < room_for_newcomers self.old) }
+        ensures wakes { IfOk result (λ _.
+            FoldsTo S.woke sink.old (woken_by_pushing self.old self.new) sink.new) }
+        ensures returned { IfErr result (λ error. error.message ≡ message) }
+        ensures refused { IfErr result (λ error. RefusedFor error.reason None self.old self.new) }
+        ensures forbears { IfErr result (λ error.
+            FoldsTo S.woke sink.old (woken_by_refusal_for error.reason self.old self.new) sink.new) }
+        ensures reason { IfErr result (λ error. Refuses self.old error.reason) }
+        ensures at_once { IfErr result (λ error. IsUnsentAtOnce error.reason) }
+        ensures due { IfErr result (λ error. error.reason ≡ SendReason.Full
+            → room_in self.old ≤ length self.old.senders.told) }
+    {
+        if self.places_are_due() {
             self.forbear_sending(sink);
             return Err(SendError::new(message, SendReason::Full));
         }
@@ -244,6 +267,7 @@ impl<T, W: Drop> Messages<T, W> {
 
     // Puts a message behind all others, if the channel is open and not full, and wakes a receiver and all streams. The message
     // takes any free place, also a place that is due to others.
+    #[inline(always)]
     fn push_any<S: WakeSink<W>>(&mut self, message: T, sink: &mut S) -> Result<(), SendError<T>>
         ensures pushed { IfOk result (λ _. Pushes message self.old self.new) }
         ensures wakes { IfOk result (λ _.
@@ -319,7 +343,27 @@ impl<T, W: Drop> Messages<T, W> {
         ensures reason { IfErr result (IsEmptyFor self.old) }
         ensures due { OnErr result (length self.old.messages ≤ length self.old.receivers.told) }
     {
-        if self.starving_receivers.len() != 0 && self.messages_are_due() {
+        if self.starving_receivers.len() != 0 {
+            return self.pop_in_turn(sink);
+        }
+        self.pop_any(sink)
+    }
+
+    // Receives as `pop` does, where a receiver starves.
+    #[cold]
+    #[inline(never)]
+    fn pop_in_turn<S: WakeSink<W>>(&mut self, sink: &mut S) -> Result<T, TryRecvError>
+        ensures popped { IfOk result (λ message. Takes (message ∷ []) self.old self.new) }
+        ensures may { OnOk result (0 < for_newcomers self.old) }
+        ensures wakes { IfOk result (λ _.
+            FoldsTo S.woke sink.old (woken_by_taking 1 self.old self.new) sink.new) }
+        ensures empty { OnErr result (Forbears self.old self.new) }
+        ensures forbears { OnErr result
+            (FoldsTo S.woke sink.old (woken_by_forbearing self.old self.new) sink.new) }
+        ensures reason { IfErr result (IsEmptyFor self.old) }
+        ensures due { OnErr result (length self.old.messages ≤ length self.old.receivers.told) }
+    {
+        if self.messages_are_due() {
             self.forbear_receiving(sink);
             return Err(TryRecvError::Empty);
         }
@@ -429,12 +473,40 @@ impl<T, W: Drop> Messages<T, W> {
         ensures wakes { FoldsTo S.woke sink.old
             (woken_by_taking result self.old self.new) sink.new }
     {
+        self.pop_into_as(None, into, limit, sink)
+    }
+
+    // Receives as `pop_into` does, for a receiver that may have a place in the queue of the receivers: it also takes the message
+    // that is due to itself.
+    pub(crate) fn pop_into_as<S: WakeSink<W>>(
+        &mut self,
+        key: Option<Key>,
+        into: &mut Vec<T>,
+        limit: usize,
+        sink: &mut S,
+    ) -> usize
+        ensures count { result ≡ min limit
+            (min (vec_capacity into.old - vec_len into.old) (due_to_no_other key self.old)) }
+        ensures popped { Takes (take result self.old.messages) self.old self.new }
+        ensures appended { into.new.items ≡ into.old.items ++ take result self.old.messages }
+        ensures wakes { FoldsTo S.woke sink.old
+            (woken_by_taking result self.old self.new) sink.new }
+    {
         let room = into.capacity() - into.len();
-        let count = limit.min(room).min(self.for_newcomers());
+        let count = limit.min(room).min(self.due_to_no_other(key));
         move_first(&mut self.items, into, count);
         let places = self.capacity - self.items.len();
         tell_more(&mut self.senders, places, count, sink);
         count
+    }
+
+    // Returns how many messages are due to no receiver beside the receiver with this key.
+    fn due_to_no_other(&self, key: Option<Key>) -> usize
+        ensures count { result ≡ due_to_no_other key self.now }
+        ensures most { result ≤ length self.now.messages }
+    {
+        let (starving, line) = (&self.starving_receivers, &self.receivers);
+        due_to_no_other(self.is_closed, starving, line, key, self.items.len())
     }
 
     /// Closes the channel, and wakes all waiters: senders, receivers, streams. Returns `false` if the channel is closed

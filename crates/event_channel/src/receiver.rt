@@ -234,10 +234,11 @@ impl<T: Drop, R: Wait + Clock + Clone> Receiver<T, R> {
     /// messages these were, which is zero only if `limit` is 0.
     ///
     /// The call blocks the thread until there is a message. It takes all its messages in one step, so no other receive gets one
-    /// from between them. Where it has to wait it takes memory, for a place in the queue and for what the thread parks on.
-    /// Before that it takes room in `into`: for one message, where a refusal is an error, and for as many as are in the channel
-    /// at the moment, where a refusal is no error. It takes no more messages than `into` has room for, so reserve room for
-    /// `limit` messages to have as many as there are.
+    /// from between them. While a receive [starves](crate::PATIENCE), the call takes no message that is due to another receive.
+    /// Where the call has to wait it takes memory, for a place in the queue and for what the thread parks on. Before that it
+    /// takes room in `into`: for one message, where a refusal is an error, and for as many as are in the channel at the moment,
+    /// where a refusal is no error. It takes no more messages than `into` has room for, so reserve room for `limit` messages to
+    /// have as many as there are.
     pub fn recv_many(&self, into: &mut Vec<T>, limit: usize) -> Result<usize, RecvError>
         ensures most { IfOk result (λ count. count ≤ limit) }
         ensures one { IfOk result (λ count. 0 < limit → 0 < count) }

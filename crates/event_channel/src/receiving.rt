@@ -1,9 +1,9 @@
 //! Receives that wait for a message.
-ghost use Rattle.std.specs.Prelude.{◌≡◌, None, true, false};
-ghost use Rattle.event_channel.specs.Calls.{LeavesReceivers, ReceivesOne, calls, received_at_once, receiver_key};
+ghost use Rattle.std.specs.Prelude.{◌≡◌, ◌<◌, None, true, false, vec_capacity, vec_len, IfSome, IsTrue};
+ghost use Rattle.event_channel.specs.Calls.{LeavesReceivers, ReceivesOne, TakesMany, calls, received_at_once, receiver_key};
 ghost use Rattle.event_channel.specs.Many.{Collects};
-ghost use Rattle.event_channel.specs.Requests.{ReceivesMany};
-ghost use Rattle.event_channel.specs.declared.call.ChannelCall.{ChannelCall};
+ghost use Rattle.event_channel.specs.Messages.{for_one};
+ghost use Rattle.event_channel.specs.Steps.{FindsNone};
 ghost use Rattle.event_channel.specs.declared.call.ChannelCall.TheVariants.{ReceiveOrWait};
 ghost use Rattle.event_wait.specs.Attempted.{Attempts, LeavesBy};
 
@@ -53,6 +53,14 @@ impl Receiving {
             key: None,
             losses: 0,
         }
+    }
+
+    /// Returns whether the receiver or stream has no place in its queue.
+    #[inline(always)]
+    pub(crate) fn has_no_place(&self) -> bool
+        ensures { IsTrue result → self.now.key ≡ None }
+    {
+        self.key.is_none()
     }
 }
 
@@ -246,30 +254,29 @@ impl<T> ReceivingMany<T> {
     }
 }
 
-impl<T> ReceivingMany<T> {
-    // Takes the first message, if one is there for newcomers, and as many more as the receiver may. Counts no refused newcomer.
-    fn take<K: WakeSink<Task>>(
-        &mut self,
-        state: &mut Messages<T, Task>,
-        sink: &mut K,
-    ) -> Option<Option<usize>>
-        ensures collects { LeavesBy Collects self.old.asked result self.new.asked }
-        ensures key { self.new.key ≡ self.old.key }
-        ensures takes { (call : ChannelCall T) × ReceivesMany None result call
-            × calls state.old call state.new }
-        ensures nothing { result ≡ None → state.new ≡ state.old }
-    {
-        if self.into.len() == self.into.capacity() {
-            return None;
+// Takes the first message, if one is there for the receiver with this key, and as many more as the receiver may. The receiver
+// keeps its place in the queue. Counts no refused newcomer.
+fn take<T, W: Drop, K: WakeSink<W>>(
+    into: &mut Vec<T>,
+    more: usize,
+    key: Option<Key>,
+    state: &mut Messages<T, W>,
+    sink: &mut K,
+) -> Option<Option<usize>>
+    requires room { vec_len into.old < vec_capacity into.old }
+    ensures collects { LeavesBy Collects (record { into = into.old.items; more = more }) result
+        (record { into = into.new.items; more = more }) }
+    ensures takes { IfSome result (λ output. TakesMany key output state.old state.new) }
+    ensures nothing { result ≡ None → state.new ≡ state.old }
+    ensures none { result ≡ None → FindsNone (for_one key state.old) state.old TryRecvError.Empty }
+{
+    match state.pop_as(key, sink) {
+        Ok(message) => {
+            into.push_reserved(message);
+            Some(Some(1 + state.pop_into_as(key, into, more, sink)))
         }
-        match state.pop_as(None, sink) {
-            Ok(message) => {
-                self.into.push_reserved(message);
-                Some(Some(1 + state.pop_into(&mut self.into, self.more, sink)))
-            }
-            Err(TryRecvError::Empty) => None,
-            Err(TryRecvError::Closed) => Some(None),
-        }
+        Err(TryRecvError::Empty) => None,
+        Err(TryRecvError::Closed) => Some(None),
     }
 }
 
@@ -308,26 +315,18 @@ impl<T> Request<Messages<T, Task>> for ReceivingMany<T> {
         sink: &mut K,
     ) -> Attempted<Option<usize>, ListenError> {
         let key = self.key;
-        if let Some(output) = self.take(state, sink) {
-            state.cancel_receiver(key, sink);
-            self.key = None;
-            return Attempted::Done(output);
-        }
         if self.into.len() == self.into.capacity() {
-            state.cancel_receiver(key, sink);
             self.key = None;
+            state.cancel_receiver(key, sink);
             return Attempted::Refused(ListenError::Memory);
         }
+        if let Some(output) = take(&mut self.into, self.more, key, state, sink) {
+            self.key = None;
+            state.cancel_receiver(key, sink);
+            return Attempted::Done(output);
+        }
         match receive_or_wait(false, key, &mut self.losses, state, exchange, on, sink) {
-            Attempted::Done(Some(message)) => {
-                self.key = None;
-                self.into.push_reserved(message);
-                Attempted::Done(Some(1))
-            }
-            Attempted::Done(None) => {
-                self.key = None;
-                Attempted::Done(None)
-            }
+            Attempted::Done(_received) => unreachable!(),
             Attempted::Waits(key) => {
                 self.key = Some(key);
                 Attempted::Waits(key)
@@ -348,8 +347,13 @@ impl<T> Request<Messages<T, Task>> for ReceivingMany<T> {
         state: &mut Messages<T, Task>,
         sink: &mut K,
     ) -> Result<Option<Option<usize>>, ListenError> {
-        let received = self.take(state, sink);
-        state.cancel_receiver(self.key.take(), sink);
+        let key = self.key.take();
+        if self.into.len() == self.into.capacity() {
+            state.cancel_receiver(key, sink);
+            return Ok(None);
+        }
+        let received = take(&mut self.into, self.more, key, state, sink);
+        state.cancel_receiver(key, sink);
         Ok(received)
     }
 }

@@ -1,5 +1,5 @@
 //! Sends that wait for room.
-ghost use Rattle.std.specs.Prelude.{◌≡◌, None, Some, IsSome};
+ghost use Rattle.std.specs.Prelude.{◌≡◌, None, Some, IsSome, IsTrue};
 ghost use Rattle.event_channel.specs.Calls.{SendsOne, sent_at_once};
 ghost use Rattle.event_channel.specs.Waits.{Empties};
 ghost use Rattle.event_wait.specs.Attempted.{LeavesBy};
@@ -39,6 +39,14 @@ impl<T> Sending<T> {
             key: None,
             losses: 0,
         }
+    }
+
+    /// Returns whether the sender has no place in the queue.
+    #[inline(always)]
+    pub(crate) fn has_no_place(&self) -> bool
+        ensures { IsTrue result → self.now.key ≡ None }
+    {
+        self.key.is_none()
     }
 
     /// Returns the error with the message, which was not sent for this reason.

@@ -7,7 +7,7 @@
 //! | `handles` | clones, weak handles, such as are refused, the last of a side, a closed channel; that a channel and its messages are freed; what handles and errors say |
 //! | `left` | one that starves and is left alone: how many newcomers are refused for its sake, that others go on then, and that it comes as one of them |
 //! | `limits` | calls that wait until a limit, and what comes while they look at the clock there |
-//! | `wakes` | threads that are blocked, and woken one by one; who is woken as one that was told is dropped, or comes to its limit |
+//! | `wakes` | threads that are blocked, and woken one by one; one that is to receive many, and takes what is due to it and to nobody; who is woken as one that was told is dropped, or comes to its limit |
 //! | `turns` | one that lost twice, by turns with others: it has the third, and newcomers what is not due; who is dropped, polled for another reason or at its limit then; a close |
 //! | `races` | threads that make their calls at the same time: the last two handles of a side dropped at once, and many of four threads; a last message as another thread receives, and many received at once as another takes one |
 //! | `threads` | 8 threads that send and 8 that receive, each in a way of its own, or many at once; handles made anew by weak ones; a close among them; calls that are given up |

@@ -5,8 +5,11 @@ use crate::waiting::Waiting;
 use crate::ways::{Answer, Way, of_timed_recv};
 use event_channel::{Receiver, Sender};
 use futures::test::MockTask;
+use std::alloc::AllocGlobal;
+use std::sync::atomic::{AtomicBool, Ordering};
 use std::thread;
 use std::time::Duration;
+use test_support::spin_until;
 
 // In milliseconds.
 const PAUSES: [u64; 6] = [1, 3, 10, 30, 60, 100];
@@ -71,6 +74,65 @@ fn one_that_was_polled_waits_at_its_place(rt: HostRuntime) {
     for pause in PAUSES {
         waits_at_its_place(&rt, pause);
     }
+}
+
+// Makes a receive that starves, and is not notified.
+fn starve<'a, R: SharedRuntime>(
+    rt: &R,
+    sender: &Sender<usize, R>,
+    receiver: &'a Receiver<usize, R>,
+) -> Waiting<'a, R> {
+    let mut starving = Waiting::receive(rt, receiver);
+    check(rt, "a poll", starving.poll(), Answer::Waits);
+    for message in [1, 2] {
+        check(rt, "a send", sender.try_send(message), Ok(()));
+        check(rt, "a receive", receiver.try_recv(), Ok(message));
+        check(rt, "a poll", starving.poll(), Answer::Waits);
+    }
+    starving
+}
+
+// While a receive starves, a thread waits for many messages, and behind it a last receive. Of four messages each of the three is
+// notified of one, so the thread may take its own and the one that is due to nobody. Returns whether the thread took these two:
+// else it was late at the queue, or woke up before all messages were there.
+fn takes_its_own_and_more<R: SharedRuntime>(rt: &R, pause: u64) -> bool {
+    let (sender, receiver) = &sides(rt, None);
+    let starving = starve(rt, sender, receiver);
+    let is_done = &AtomicBool::new(false);
+    let blocked = || {
+        let mut many = Vec::with_capacity(rt.alloc(), 4).expect(rt, "room");
+        check(rt, "many", receiver.recv_many(&mut many, 4).is_ok(), true);
+        is_done.store(true, Ordering::SeqCst);
+        many
+    };
+    let sends = || {
+        thread::sleep(rt, Duration::from_millis(pause));
+        let mut last = Waiting::receive(rt, receiver);
+        check(rt, "a poll", last.poll(), Answer::Waits);
+        let first_two = [sender.try_send(3), sender.try_send(4)];
+        let is_late = last.is_woken();
+        let last_two = [sender.try_send(5), sender.try_send(6)];
+        check(rt, "two sends", first_two, [Ok(()), Ok(())]);
+        check(rt, "two sends", last_two, [Ok(()), Ok(())]);
+        spin_until(rt, || is_done.load(Ordering::SeqCst));
+        is_late
+    };
+    let (many, is_late) = thread::join(rt, blocked, sends);
+    let mut starving = starving;
+    if is_late || many.len() != 2 {
+        return false;
+    }
+    check(rt, "many", many.as_slice(), [3, 4].as_slice());
+    check(rt, "the next", starving.poll(), Answer::Received(5));
+    true
+}
+
+#[test]
+fn many_begin_with_the_message_that_is_due(rt: HostRuntime) {
+    let is_taken = PAUSES
+        .iter()
+        .any(|pause| takes_its_own_and_more(&rt, *pause));
+    check(&rt, "whether one took two", is_taken, true);
 }
 
 // How a notified wait ends: the wait is dropped, or reaches its limit.

@@ -1,30 +1,14 @@
 //! Waiters in a queue that starve: newcomers leave them the messages or places that are due to them.
-ghost use Rattle.std.specs.Prelude.{◌≡◌, ◌≢◌, ◌==◌, ◌||◌, true, false, length, None, Some, IfErr, IfOk, OnErr};
+ghost use Rattle.std.specs.Prelude.{◌≡◌, ◌==◌, ◌||◌, true, false, length, None, Some, IfErr, IfOk, OnErr};
 ghost use Rattle.event_wait.specs.Line.{WaitsBy};
-ghost use Rattle.event_channel.specs.Turns.{CannotWaitInTurn, Counts, Starving, WaitsAtPlace, but, forborne_with, is_told, left_for_newcomers, less_forborne, struck, struck_off};
+ghost use Rattle.event_channel.specs.Turns.{CannotWaitInTurn, Counts, WaitsAtPlace, but, is_told, left_for_newcomers, struck, told_beside};
 ghost use Rattle.event_queue.specs.Queue.{IsQueue};
 
 use event_queue::{Key, List, ListenError, RegisterResult, TaskExchange};
 use event_wait::Attempted;
+use event_wait::starving::{PATIENCE, forborne_with, strike_off};
 use event_wait::waiters::{join_line, leave, wait_in_line};
 use std::alloc::Global;
-
-/// How often a waiter is notified and finds nothing before newcomers leave it the message or place that is due to it.
-pub const PATIENCE: u32 = 2;
-
-/// How many newcomers are refused for the sake of a starving waiter before that waiter is struck off, if it lost [`PATIENCE`]
-/// times. Each further loss doubles the number, up to about a million.
-pub const FORBEARANCE: u32 = 64;
-
-// How often `FORBEARANCE` is doubled at most.
-const DOUBLED: u32 = 14;
-
-// Returns how many newcomers, beside the last, are refused for the sake of a waiter that has lost so often.
-fn forborne_with(losses: u32) -> u32
-    ensures { result ≡ forborne_with losses }
-{
-    (FORBEARANCE << losses.saturating_sub(PATIENCE).min(DOUBLED)) - 1
-}
 
 // Returns whether the waiter with this key is in the queue, and notified.
 #[inline(always)]
@@ -54,6 +38,35 @@ pub(crate) fn left_for_newcomers<W>(
     there.saturating_sub(line.listeners_notified())
 }
 
+// Returns how many waiters are notified beside the waiter with this key.
+fn told_beside<W>(line: &List<(), W>, key: Option<Key>) -> usize
+    ensures { result ≡ told_beside (is_told key line.now) (length line.now.told) }
+{
+    let told = line.listeners_notified();
+    if is_told(line, key) {
+        return told.saturating_sub(1);
+    }
+    told
+}
+
+// Returns how many of the messages or places that are there are due to no waiter beside the waiter with this key: all, if the
+// channel is closed or no waiter starves.
+pub(crate) fn due_to_no_other<W>(
+    is_closed: bool,
+    starving: &Vec<(Key, u32), Global>,
+    line: &List<(), W>,
+    key: Option<Key>,
+    there: usize,
+) -> usize
+    ensures { result ≡ left_for_newcomers (is_closed || length starving.now.items == 0)
+        (told_beside (is_told key line.now) (length line.now.told)) there }
+{
+    if is_closed || starving.len() == 0 {
+        return there;
+    }
+    there.saturating_sub(told_beside(line, key))
+}
+
 // Takes the waiter with this key, if there is a key, out of the list of starving waiters.
 #[inline(always)]
 pub(crate) fn strike(starving: &mut Vec<(Key, u32), Global>, key: Option<Key>)
@@ -64,30 +77,6 @@ pub(crate) fn strike(starving: &mut Vec<(Key, u32), Global>, key: Option<Key>)
             strike_off(starving, key);
         }
     }
-}
-
-#[cold]
-#[inline(never)]
-fn strike_off(starving: &mut Vec<(Key, u32), Global>, key: Key)
-    ensures { starving.new.items ≡ but (Some key) starving.old.items }
-{
-    starving.retain(|one| key != one.0);
-}
-
-// Counts one more newcomer that is refused for the sake of the first starving waiter. Returns the key of that waiter if the
-// newcomer is the last to be refused for it.
-pub(crate) fn forbear(starving: &mut Vec<(Key, u32), Global>) -> Option<Key>
-    ensures off { result ≡ struck_off starving.old.items }
-    ensures less { result ≡ None → starving.new.items ≡ less_forborne starving.old.items }
-    ensures same { result ≢ None → starving.new.items ≡ starving.old.items }
-    ensures count { length starving.new.items ≡ length starving.old.items }
-{
-    let (key, more) = *starving.get(0)?;
-    if more == 0 {
-        return Some(key);
-    }
-    starving[0] = (key, more - 1);
-    None
 }
 
 // Has a waiter that was not notified wait on at its place. A caller without a place is absent, and tries again: all messages or

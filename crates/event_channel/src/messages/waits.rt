@@ -33,7 +33,7 @@ impl<T, W: Drop> Messages<T, W> {
     /// sent stays in its slot. A sender whose slot is empty is absent. A sender in no queue is absent, too, where there is
     /// room, but each place is due to others: that sender tries again. A sender tries at each call, notified or not. A sender
     /// that was notified in vain goes to the end of the queue, and has lost once more: it starves if it lost
-    /// [`PATIENCE`](super::PATIENCE) times. A sender that does not wait is in the queue no more, and another sender is notified
+    /// [`PATIENCE`](crate::PATIENCE) times. A sender that does not wait is in the queue no more, and another sender is notified
     /// in its place if a place is due. The call may allocate for a sender that is new or starves.
     pub fn push_or_wait<C, X: TaskExchange<W, C>, S: WakeSink<W>>(
         &mut self,
@@ -93,7 +93,7 @@ impl<T, W: Drop> Messages<T, W> {
 
     /// Receives a message as [`pop`](Messages::pop) does; a notified receiver also takes a message that is due to it. A
     /// receiver for which there is no message waits, as a sender does: a notified receiver has lost once more, and starves if
-    /// it lost [`PATIENCE`](super::PATIENCE) times. A receiver in no queue is absent where there are messages, but each is due
+    /// it lost [`PATIENCE`](crate::PATIENCE) times. A receiver in no queue is absent where there are messages, but each is due
     /// to others: that receiver tries again. `None` is the end: there is no message, and the channel is closed, so no message
     /// will be sent.
     pub fn pop_or_wait<C, X: TaskExchange<W, C>, S: WakeSink<W>>(

@@ -1,20 +1,14 @@
 use Rattle.std.proofs.Common.{rules, refl}
 use Rattle.event_channel.proofs.PlaceLemmas.{keeping}
-use Rattle.event_channel.proofs.StepLemmas.{many_absent, many_leaves, many_refused, many_taken_then_leaves, many_waits, no_more_come, one_taken}
+use Rattle.event_channel.proofs.StepLemmas.{many_absent, many_leaves, many_refused, many_taken_then_leaves, many_waits}
 use Rattle.event_channel.proofs.receiving.ReceivingManyRequestMessagesTask.attempt_or_wait.Goals as goal
-
-pub returns-in-Some-clause-goes : goal.returns-in-Some-clause-goes
-returns-in-Some-clause-goes g c = keeping _ _ _ _ (search rules) (search rules) (many_taken_then_leaves _ c.self.inside.key _ _ _ c.in-Some.ensures.takes (c.cancel_receiver.ensures.others, c.cancel_receiver.ensures.left))
 
 pub returns-then-len-capacity-clause-goes : goal.returns-then-len-capacity-clause-goes
 returns-then-len-capacity-clause-goes g c =
-    let left = c.cancel_receiver-then-len-capacity.ensures in keeping _ _ _ _ (search rules) (search rules) (many_leaves c.self.inside.key _ _ _ (c.in_default.ensures.nothing refl) (left.others, left.left))
+    let left = c.cancel_receiver.ensures in keeping _ _ _ _ (search rules) (search rules) (many_leaves c.self.inside.key _ _ (left.others, left.left))
 
-pub returns-in-Done-Some-clause-goes : goal.returns-in-Done-Some-clause-goes
-returns-in-Done-Some-clause-goes g c = keeping _ _ _ _ (search rules) (search rules) (one_taken _ _ _ c.self.inside.key _ _ c.in-Done-Some.field-0-is (c.in_default.ensures.nothing refl) c.in-Done-Some.ensures.receives)
-
-pub returns-in-Done-None-clause-goes : goal.returns-in-Done-None-clause-goes
-returns-in-Done-None-clause-goes g c = keeping _ _ _ _ (search rules) (search rules) (no_more_come _ _ _ c.self.inside.key _ c.in-Done-None.field-0-is (c.in_default.ensures.nothing refl) c.in-Done-None.ensures.receives)
+pub returns-in-Some-clause-goes : goal.returns-in-Some-clause-goes
+returns-in-Some-clause-goes g c = keeping _ _ _ _ (search rules) (search rules) (many_taken_then_leaves _ c.self.inside.key _ _ _ c.in-Some.ensures.takes (c.cancel_receiver-in-Some.ensures.others, c.cancel_receiver-in-Some.ensures.left))
 
 pub returns-in-Waits-clause-goes : goal.returns-in-Waits-clause-goes
 returns-in-Waits-clause-goes g c = keeping _ _ _ _ (search rules) (search rules) (many_waits _ _ _ c.self.inside.key _ (c.in_default.ensures.nothing refl) c.in-Waits.ensures.receives)
