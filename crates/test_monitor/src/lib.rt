@@ -4,8 +4,10 @@
 //! | Module | What it tests |
 //! |---|---|
 //! | `barrier` | that each round has one leader |
+//! | `crowds` | more waiters than a thread has room for at hand: none is woken while the lock is held, and all are woken |
 //! | `cell` | a value that is set or made once, by threads and by tasks: one at a time, and once that one is gone the next |
 //! | `monitor` | a value that threads and tasks wait for: that a thread parks until it changes, whatever changes it, or until its limit, and until the lock is free |
+//! | `wakes` | threads that have parked, and are let in by the last task at a barrier, by a turn given up, by a task that makes a value |
 #![tactic(auto)]
 
 #[cfg(test)]
@@ -13,6 +15,10 @@ mod barrier;
 #[cfg(test)]
 mod cell;
 #[cfg(test)]
+mod crowds;
+#[cfg(test)]
 mod monitor;
 #[cfg(test)]
 mod support;
+#[cfg(test)]
+mod wakes;

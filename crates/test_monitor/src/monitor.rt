@@ -11,7 +11,7 @@ use test_support::{Runtime, deadline_after, spin_until};
 /// Takes an amount off a balance, once there is as much. It gives what is left.
 #[derive(Clone, Copy)]
 pub struct Withdrawal {
-    amount: u64,
+    pub amount: u64,
 }
 
 impl Condition<u64> for Withdrawal {

@@ -7,7 +7,7 @@
 //!   [`Changed`] is one with a [`Change`]: of what its clock shows, as by [`NoClock`] or [`Ticks`], or of what happens when
 //!   that is read or the runtime value is cloned.
 //! - Programs: a [`Screen`] keeps what one prints.
-//! - Threads: [`for_two_seconds`], as long as a race takes, and [`spin_until`].
+//! - Threads: [`for_two_seconds`], as long as a race takes, [`spin_until`], and [`is_let_in`], a thread that has parked.
 //!
 //! No clause says that anything is woken: the tests show it.
 #![tactic(auto)]
@@ -21,7 +21,7 @@ mod wakers;
 
 pub use calls_events::{Borrowing, ListenerKind, Sharing, waker_of};
 pub use changed::{Change, Changed, NoClock, Ticks};
-pub use loops::{for_two_seconds, spin_until};
+pub use loops::{for_two_seconds, is_let_in, spin_until};
 pub use runtimes::{Runtime, SharedRuntime};
 pub use screen::Screen;
 pub use waits::{WaitCall, deadline_after};
