@@ -6,8 +6,8 @@
 //! |---|---|
 //! | `behaviours` | what a semaphore, a mutex and a read-write lock do when they are called in the order that their users know from other crates |
 //! | `tasks` | tasks that wait for each lock, and are woken once they are let in; one that is told and dropped, which gives on what it was handed; one that is over; permits that share their semaphore |
-//! | `threads` | threads that wait in each way, and are woken once they are let in |
-//! | `wakes` | threads that have parked, and are let in by a writer that reads, by the last task at a barrier, by a turn given up, by a task that makes a value |
+//! | `threads` | threads that wait in each way, and are woken once they are let in, also by a writer that reads |
+//! | `left` | a starving waiter that is left alone: for how long newcomers are refused for its sake, and what becomes of it |
 //! | `limits` | waits that end at their limit, at one that has passed and by a clock that can't be read |
 //! | `turns` | when newcomers are shut out |
 //! | `closes` | that a semaphore which closes ends each kind of wait |
@@ -24,6 +24,8 @@ mod closes;
 #[cfg(test)]
 mod crowds;
 #[cfg(test)]
+mod left;
+#[cfg(test)]
 mod limits;
 #[cfg(test)]
 mod races;
@@ -39,5 +41,3 @@ mod tasks;
 mod threads;
 #[cfg(test)]
 mod turns;
-#[cfg(test)]
-mod wakes;

@@ -8,6 +8,6 @@ const _: () = prove!(size_of::<RwLock<u64>>() == 216);
 
 const _: () = prove!(size_of::<Semaphore>() == 144);
 
-const _: () = prove!(size_of::<Barrier>() == 112);
+const _: () = prove!(size_of::<Barrier>() == 128);
 
-const _: () = prove!(size_of::<OnceCell<u64>>() == 232);
+const _: () = prove!(size_of::<OnceCell<u64>>() == 248);

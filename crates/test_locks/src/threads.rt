@@ -4,11 +4,12 @@ use crate::support::{check, new_lock, new_task, wait_until};
 use event_locks::RwLock;
 use futures::executor::block_on;
 use futures::test::MockTask;
+use std::sync::Arc;
 use std::sync::atomic::{AtomicBool, Ordering};
 use std::thread;
 use std::time::Duration;
 use test_kinds::Waits;
-use test_support::Runtime;
+use test_support::{Runtime, is_let_in};
 
 // A way in which a thread waits.
 #[derive(Clone, Copy)]
@@ -74,4 +75,14 @@ fn a_thread_that_waits_is_woken(rt: HostRuntime) {
             check(&rt, "whether it is granted", granted, true);
         }
     }
+}
+
+#[test]
+fn a_writer_that_reads_lets_a_thread_in(rt: HostRuntime) {
+    let lock = &Arc::new(rt.alloc(), new_lock(&rt, 7u64)).expect(&rt, "memory");
+    let writer = RwLock::try_write_arc(lock, rt).expect(&rt, "a share");
+    let writer = writer.expect(&rt, "the value");
+    let reads = || lock.read(&rt, rt.alloc()).wait().is_ok();
+    let granted = is_let_in(&rt, reads, move || writer.downgrade());
+    check(&rt, "whether it is granted", granted, true);
 }
