@@ -13,6 +13,7 @@ mod jobs;
 mod limiter;
 mod pool;
 mod queue;
+mod tasks;
 mod two_channels;
 
 use awaits::{deposit, first_of, meet, read_after_write, take_two};
@@ -34,6 +35,7 @@ use std::random::RandomSource;
 use std::sync::{Arc, Wait};
 use std::thread::{self, Threads};
 use std::time::{Clock, Duration};
+use tasks::deposit_all;
 use two_channels::urgent_first;
 
 // The square of 2^32 is too large, so a worker gives that job up.
@@ -207,6 +209,10 @@ where
     run_joins(rt)?;
     run_jobs(&rt)?;
     run_hands(&rt)?;
+    println!(rt;
+        "tasks: the balance is {}",
+        deposit_all(&rt, rt.alloc(), 4)?
+    )?;
     println!(rt; "event: the tag is {}", first_wait(rt, rt.alloc())?)?;
     Ok(())
 }

@@ -1,6 +1,4 @@
-//! Tasks of one thread take turns at a balance, in a pool of `futures`. The balance is printed once all have added to it.
-#![tactic(auto)]
-
+//! Tasks of one thread take turns at a balance, in a pool of `futures`.
 ghost use Rattle.event_locks.specs.Awaited.{lock_awaits};
 
 use event_locks::{Lock, Mutex};
@@ -11,12 +9,6 @@ use std::alloc::{AllocGlobal, Global};
 use std::random::RandomSource;
 use std::sync::Wait;
 use std::time::Clock;
-
-fn main(rt: HostRuntime) -> anyhow::Result<()> {
-    let balance = deposit_all(&rt, rt.alloc(), 4)?;
-    println!(rt; "The balance is {balance}.")?;
-    Ok(())
-}
 
 /// Adds to a balance once this task has it.
 #[derive(Drop)]
@@ -40,7 +32,7 @@ impl<'a, R: Wait + Clock> Future for Deposit<'a, R> {
 }
 
 /// What a balance is once each task has added its amount, from 1 up. One that could not wait adds nothing.
-fn deposit_all<R>(rt: &R, alloc: Global, tasks: u64) -> anyhow::Result<u64>
+pub fn deposit_all<R>(rt: &R, alloc: Global, tasks: u64) -> anyhow::Result<u64>
 where
     R: Wait + Clock + RandomSource + AllocGlobal,
 {
