@@ -5,7 +5,7 @@ use crate::queues::{OnBorrowed, OnEvent, OnList, OnRecorded, Queue, events, wake
 use crate::repeat;
 use crate::run::{OtherAnswer, Run, Runtime};
 use anyhow::Result;
-use calls_records::{On, new_event};
+use calls_events::{On, new_event};
 use event_listener::{Event, EventIds};
 use futures::task::Context;
 use futures::test::MockTask;

@@ -1,5 +1,5 @@
-//! Schedules of the worlds of [`event_worlds`] as text: one language for the worked rows ([`WORLDS`]), and for the program
-//! `explore` and its tests.
+//! Schedules of the worlds of [`event_worlds`] as text: one language for the worked rows ([`WORLDS`]), other rows of
+//! tests, and the program `explore`.
 //!
 //! A row is a title, a head and lines up to an empty line:
 //!

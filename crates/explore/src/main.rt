@@ -68,12 +68,8 @@
 #![tactic(auto)]
 
 mod all;
-#[cfg(test)]
-mod crowds;
 mod lines;
 mod table;
-#[cfg(test)]
-mod tests;
 
 use anyhow::Result;
 use std::io::{self, BufReader, BufWriter, Write};

@@ -46,11 +46,8 @@ pub fn take<V: World>(world: &mut V, step: Step) -> bool {
 // A column for each part, under its name.
 fn write_header<W: Write>(parts: &str, output: &mut W) -> Result<()> {
     write!(output, "| step | {:<19} |", "act")?;
-    for part in parts.split(", ") {
-        let (name, _) = part.split_once(' ').unwrap_or((part, ""));
-        write!(output, " {name:<24} |")?;
-    }
-    write!(output, "\n|---|---|")?;
+    write_columns(parts, true, output)?;
+    write!(output, "|---|---|")?;
     for _ in parts.split(", ") {
         write!(output, "---|")?;
     }
@@ -59,9 +56,15 @@ fn write_header<W: Write>(parts: &str, output: &mut W) -> Result<()> {
 }
 
 fn write_parts<W: Write>(parts: &str, output: &mut W) -> Result<()> {
+    write_columns(parts, false, output)
+}
+
+// The name of each part, or its value, and the end of the line.
+fn write_columns<W: Write>(parts: &str, are_names: bool, output: &mut W) -> Result<()> {
     for part in parts.split(", ") {
-        let (_, value) = part.split_once(' ').unwrap_or((part, ""));
-        write!(output, " {value:<24} |")?;
+        let (name, value) = part.split_once(' ').unwrap_or((part, ""));
+        let text = if are_names { name } else { value };
+        write!(output, " {text:<24} |")?;
     }
     writeln!(output)?;
     Ok(())

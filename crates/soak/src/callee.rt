@@ -1,7 +1,6 @@
 //! An event, called as a recorded one is.
 use calls::{Act, Reply};
-use calls_events::{ListenerKind, Runtime};
-use calls_records::HandCalls;
+use calls_events::{HandCalls, ListenerKind, Runtime};
 use event_listener::{
     Event, Hand, IntoNotification, IntoTagged, ListenError, Listener, NeverInserted, WaitError,
 };

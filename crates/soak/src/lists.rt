@@ -4,8 +4,7 @@ use crate::run::Request;
 use crate::steps::{Listeners, Step, random_list};
 use anyhow::{Result, bail};
 use calls::{Interpreter, Queues, Row, Undisturbed};
-use calls_events::{Runtime, run_on_events};
-use calls_records::run_on_records;
+use calls_events::{Runtime, run_on_events, run_on_records};
 use std::alloc::Global;
 use std::io::Print;
 

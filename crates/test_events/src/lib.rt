@@ -12,6 +12,7 @@
 //! | `wakes` | a task and a parked thread behind a notification of a hand, a task behind a told listener that is dropped |
 //! | `making` | the macro `listener!`; slots; a refused clone; what is shown; what threads may share; listeners that outlive their event |
 //! | `order`, as text | in which order tasks wake on a recorded event; 2,000 listeners on one event of each kind: how many are notified and in which order, and what the event says then |
+//! | `worlds`, as text | how many clients a world of `event_worlds` may have; that what is no schedule changes nothing; and that a row which is wrong is found |
 //! | `records` | more hands than memory holds; hands of other events; each call of a recorded state succeeds |
 //! | `waits::limits` | a told listener gives its tag at once, without parking; a timed wait parks until its limit, and ends no earlier and soon after it, by clocks that are slow, go back, fail, can't be read or notify; a task that polls is woken only once its listener is told, and a finished listener does not wait |
 //! | `waits::wakes` | a notification and the drop of a told listener wake parked threads; a thread is told before it looks for its listener, before it parks, as it does so, or after |
@@ -57,3 +58,5 @@ mod tags;
 mod waits;
 #[cfg(test)]
 mod wakes;
+#[cfg(test)]
+mod worlds;

@@ -4,8 +4,7 @@
 //! but not that it wakes one: those of `waits`, in which threads wait, show that.
 use crate::support::{Runtime, check, reads};
 use calls::{Difference, Row, Undisturbed};
-use calls_events::run_on_events;
-use calls_records::run_on_records;
+use calls_events::run_row;
 
 const ROWS: &str = "
 A poll in a task keeps a waker of that task, however it came. Any other is replaced, which wakes its task; so is even one \
@@ -99,14 +98,11 @@ total -> total 0";
 
 /// How a row differs on its subject, with each kind of listener where that is an event.
 pub fn made<'t, R: Runtime>(rt: &R, row: Row<'t>) -> Result<(), Difference<'t>> {
-    match run_on_events(row, rt, &mut Undisturbed) {
-        Some(made) => made,
-        None => run_on_records(row, rt, &mut Undisturbed).expect(rt, "a subject"),
-    }
+    run_row(row, rt, &mut Undisturbed)
 }
 
-// The rows of the text hold, and there are so many.
-fn hold<R: Runtime>(rt: &R, text: &str, rows: usize) {
+/// The rows of the text hold, and there are so many.
+pub fn hold<R: Runtime>(rt: &R, text: &str, rows: usize) {
     for place in 0..rows {
         let row = Row::nth(text, place).expect(rt, "a row");
         if let Err(difference) = made(rt, row) {

@@ -2,7 +2,7 @@
 //! events and of listeners for threads.
 use crate::support::{Runtime, check, listen_as, new_event, new_task, sharing};
 use calls::Reply;
-use calls_records::{HandCalls, On, new_event as new_recorded};
+use calls_events::{HandCalls, On, new_event as new_recorded};
 use event_listener::{Event, IntoTagged, Listener};
 use futures::task::Poll;
 use std::thread::{self, Threads};

@@ -1,6 +1,8 @@
 //! What channels leave where memory is refused: a message is in the channel or is returned, and is never lost.
 mod leaks;
 
+use crate::budget::Budget;
+use crate::starved::Starved;
 use crate::support::{Answer, Runtime, all_memory, check, count_refused, leave, new_task};
 use event_channel::{
     ChannelError, Receiver, RecvError, RecvTimeoutError, SendError, SendReason, Sender,
@@ -12,7 +14,6 @@ use futures::task::Poll;
 use std::alloc::AllocError;
 use std::cell::Cell;
 use std::time::Duration;
-use test_queue_memory::{Budget, Starved};
 
 const LISTENING: WaitError = WaitError::Listen(ListenError::Memory);
 

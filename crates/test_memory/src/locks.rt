@@ -1,5 +1,7 @@
 //! Locks that are held, and semaphores whose permits are taken, while their callers are refused memory, and the example
 //! programs.
+use crate::budget::Budget;
+use crate::starved::Starved;
 use crate::support::{
     Answer, Runtime, all_memory, check, count_refused, leave, new_budget, new_id, new_task,
 };
@@ -10,7 +12,6 @@ use example_events::meeting::{MeetingError, wait_for_setter};
 use futures::task::Waker;
 use std::alloc::AllocError;
 use std::time::Duration;
-use test_queue_memory::{Budget, Starved};
 use test_support::{any_waker, waker_of};
 
 // Whether it was given. There is no answer where memory was refused.

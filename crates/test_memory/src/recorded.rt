@@ -1,14 +1,15 @@
 //! Calls on recorded events that have room for note and entry, or none for the note, and each request of a wait. Afterwards the
 //! record agrees with the notes.
+use crate::budget::Budget;
+use crate::starved::Starved;
 use crate::support::{Runtime, all_memory, check, count_refused, leave, new_task};
 use calls::{Reply, reads};
-use calls_records::{HandCalls, On, close, new_event};
+use calls_events::{HandCalls, On, close, new_event};
 use event_listener::{Hand, RecordedEvent, RecordedPollError, WaitError};
 use std::alloc::AllocError;
 use std::cell::Cell;
 use std::process::Abort;
 use std::time::Duration;
-use test_queue_memory::{Budget, Starved};
 
 // A call has the reply that has this text. It allocates nothing.
 fn is<R: Abort>(rt: &R, reply: Reply, text: &str) {

@@ -1,10 +1,12 @@
 //! What the tests share: the comparison of an answer, and memory that is taken. Each ends the test where it fails.
+use crate::budget::Budget;
+use crate::hog::Hog;
+use crate::starved::Starved;
 use event_listener::{EventId, EventIds};
 use futures::test::MockTask;
 use std::alloc::AllocGlobal;
 use std::fmt::Debug;
 use std::process::Abort;
-use test_queue_memory::{Budget, Hog, Starved};
 pub use test_support::Runtime;
 
 /// What is compared.

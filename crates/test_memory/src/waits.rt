@@ -1,4 +1,6 @@
 //! Waits for each lock of `event_locks` that are refused memory, and calls there that need none.
+use crate::budget::Budget;
+use crate::starved::Starved;
 use crate::support::{Runtime, all_memory, check, count_refused, leave, new_task};
 use event_listener::ListenError;
 use event_locks::{Barrier, LockError, Mutex, RwLock, Semaphore};
@@ -6,7 +8,6 @@ use futures::task::Poll;
 use std::cell::Cell;
 use std::time::{Duration, Instant};
 use test_kinds::{Case, Kind, Refusal, Sharing, Waits, each};
-use test_queue_memory::{Budget, Starved};
 use test_support::{Changed, Ticks};
 
 // A wait that ends at its limit, or a poll. It counts the refusals of a place in the queue, and of what a thread parks on.

@@ -5,8 +5,8 @@
 //! the first line that answers otherwise, or for which there is no memory: then the row differs, and the standard error
 //! says which line that is, what was wanted and what came. On events each row is made twice, with each kind of listener.
 //!
-//! The table of rows and its printing do not allocate, so a row that ran out of memory has its line, too: the tests of the
-//! crate ([`refused`]) have each request of a row fail in turn, and `make starved` runs the program with too few addresses.
+//! The table of rows and its printing do not allocate, so a row that ran out of memory has its line, too: the tests of
+//! `test_memory` have each request of a row fail in turn, and `make starved` runs the program with too few addresses.
 //!
 //! `make run` runs it without proof, in under a minute; `make run V=1` shows the text of each row above its line. `make
 //! vectors` proves it and all below it, runs it, and keeps the program as `crates/vectors/out/vectors`. What the rows show,
@@ -14,29 +14,21 @@
 //!
 //! # Another row
 //!
-//! - Write its title, which says what it shows, its head and its lines into the text of its family: [`queue`], [`events`],
-//!   [`records`] or [`calls::worlds`]. No two rows have one number. `calls` has the calls and the subjects.
-//! - Add its line to `crates/vectors/stdout`, and its calls to the counts of [`refused`]. `make run` shows whether its answers
-//!   are right.
+//! - Write its title, which says what it shows, its head and its lines into the text of its family: `queue`, `events` or
+//!   `records` in the folder `worked` of `calls_events`, or [`calls::worlds`]. No two rows have one number. `calls` has the calls
+//!   and the subjects.
+//! - Add its line to `crates/vectors/stdout`, and its calls to the counts in `rows::families` of `test_memory`. `make run` shows
+//!   whether its answers are right.
 //!
 //! A call that no row has made yet is a variant of `Call` in `calls`, with an arm where its subject makes calls. Another
-//! subject is a type with `calls::Subject`, and an arm of [`rows`].
+//! subject is a type with `calls::Subject`, and an arm of [`calls_events::run_row`].
 #![tactic(auto)]
 
 ghost use Rattle.std.specs.Prelude.{◌≡◌, IfOk, IsErr, if◌then◌else◌};
 ghost use Rattle.std.specs.Process.{exit_status};
 
-mod events;
-mod print;
-mod queue;
-mod records;
-#[cfg(test)]
-mod refused;
-mod rows;
-
 use calls::Undisturbed;
-use print::print_rows;
-use rows::TEXTS;
+use calls_events::{TEXTS, print_rows};
 use std::io;
 use std::process::ExitCode;
 

@@ -1,7 +1,7 @@
 //! Recorded events.
 use super::{Queue, waker_of};
 use calls::Reply;
-use calls_records::HandCalls;
+use calls_events::HandCalls;
 use event_listener::Hand;
 use futures::task::Context;
 

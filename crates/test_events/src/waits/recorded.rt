@@ -5,7 +5,7 @@ use crate::support::check;
 use crate::waits::stage::{AnyEvent, SharedRuntime, Stage, StageClock, moment_after};
 use crate::waits::trial::{Polled, Trial, Waited};
 use calls::Reply;
-use calls_records::{HandCalls, On, close, new_event};
+use calls_events::{HandCalls, On, close, new_event};
 use event_listener::{
     Hand, RecordedEvent, RecordedListener, RecordedPollError, RecordedReply, WaitReason,
 };

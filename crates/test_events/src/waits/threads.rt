@@ -2,7 +2,7 @@
 use crate::support::check;
 use crate::waits::stage::{SharedRuntime, now};
 use calls::{Act, Reply};
-use calls_records::{HandCalls, On, close, new_event};
+use calls_events::{HandCalls, On, close, new_event};
 use event_listener::{EventId, EventIds, Hand, RecordedEvent};
 use std::sync::Wait;
 use std::thread;

@@ -1,10 +1,10 @@
 //! Rows on a recorded event.
-use crate::hand_calls::{HandCalls, On};
-use crate::record::{Closed, close, new_event};
-use crate::recorded::Recorded;
-use crate::written::Written;
+use crate::records::hand_calls::{HandCalls, On};
+use crate::records::record::{Closed, close, new_event};
+use crate::records::recorded::Recorded;
+use crate::records::written::Written;
+use crate::wakes::Runtime;
 use calls::{Difference, Hook, Request, Row, reads};
-use calls_events::Runtime;
 use event_listener::{Hand, RecordedEvent};
 use std::alloc::Global;
 

@@ -1,10 +1,8 @@
 //! Subjects of one call that are wrong, each in a way that the hooks have to find.
-use crate::refused::{check, new_budget};
+use crate::hooks::{Calls, Refusing, Stage, Starving, Wrong};
+use crate::support::{Runtime, check, new_budget};
 use calls::{Answer, Call, Hook, Reply, Request, Row, Subject};
-use calls_events::Runtime;
 use std::alloc::{AllocError, Global};
-use std::process::Abort;
-use test_queue_memory::{Calls, Refusing, Stage, Starving, Wrong};
 
 // A subject whose call takes two blocks.
 #[derive(Clone, Copy, Debug)]
@@ -98,12 +96,7 @@ impl Calls for OneCall {
 
 // What is found of the subject with its requests refused, and how often it was refused until then; and whether its call
 // has its answer where calls that are to take no memory have none.
-fn finds<R: Runtime + Abort>(
-    rt: &R,
-    fault: Fault,
-    refused: Result<usize, Wrong>,
-    starved: bool,
-) -> usize {
+fn finds<R: Runtime>(rt: &R, fault: Fault, refused: Result<usize, Wrong>, starved: bool) -> usize {
     let alloc = rt.alloc();
     let call = OneCall { alloc, fault };
     let mut hook = Refusing::new(new_budget(rt));

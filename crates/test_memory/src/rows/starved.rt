@@ -1,8 +1,8 @@
 //! Rows in which a call meets a refusal.
-use crate::refused::{check, new_budget};
-use crate::rows::run;
+use crate::hooks::Starving;
+use crate::support::{check, new_budget};
 use calls::Row;
-use test_queue_memory::Starving;
+use calls_events::run_row;
 
 const STARVED: &str = "
 A listener whose wait was refused its parker stands where it was.
@@ -83,7 +83,7 @@ fn rows_that_meet_a_refusal(rt: HostRuntime) {
         let Some(row) = Row::nth(STARVED, place) else {
             break;
         };
-        if let Err(difference) = run(row, &rt, &mut Starving::new(new_budget(&rt))) {
+        if let Err(difference) = run_row(row, &rt, &mut Starving::new(new_budget(&rt))) {
             panic!(&rt; "{difference}");
         }
         rows = rows.wrapping_add(1);

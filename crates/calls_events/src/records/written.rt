@@ -1,5 +1,5 @@
 //! Records that a text writes.
-use crate::recorded::kind_and_tag;
+use crate::records::recorded::kind_and_tag;
 use calls::{Answer, Call, Reply, Request, Subject};
 use event_listener::{Entry, Key, ListenError, RecordedCall, RecordedReply, replays};
 use std::alloc::{AllocError, Global};

@@ -1,5 +1,5 @@
 //! Hooks that refuse memory to calls of texts.
-use crate::Budget;
+use crate::budget::Budget;
 use calls::{Hook, Request};
 
 /// What makes calls, always the same, with a hook round each.

@@ -1,17 +1,24 @@
-//! The texts of all families, and on what their rows make their calls.
-use crate::events::EVENTS;
-use crate::queue::QUEUE;
-use crate::records::RECORDS;
+//! The worked rows, and a row on any subject.
+mod events;
+mod print;
+mod queue;
+mod records;
+
+use crate::records::run_on_records;
+use crate::row::run_on_events;
+use crate::wakes::Runtime;
 use calls::worlds::{WORLDS, run_on_worlds};
 use calls::{Difference, Hook, Row};
-use calls_events::{Runtime, run_on_events};
-use calls_records::run_on_records;
+pub use events::EVENTS;
+pub use print::print_rows;
+pub use queue::QUEUE;
+pub use records::RECORDS;
 
-/// The texts of the families.
+/// The texts of the worked rows, a family each.
 pub const TEXTS: [&str; 4] = [QUEUE, EVENTS, RECORDS, WORLDS];
 
-/// Makes the calls of the row, with the hook round each, and compares their answers with those of the row.
-pub fn run<'t, R: Runtime, H: Hook>(
+/// Makes the calls of the row on its subject, with the hook round each, and compares their answers with those of the row.
+pub fn run_row<'t, R: Runtime, H: Hook>(
     row: Row<'t>,
     rt: &R,
     hook: &mut H,

@@ -1,8 +1,8 @@
 //! What no clause says of a queue: when tags and tasks are dropped, that a refused `reserve` keeps what it made, that many
 //! listeners come and leave in any order, that a dropped queue gives its memory back, and texts; and that a key is that of a
 //! listener by its slot and serial alone, whatever queue gave it.
-use crate::support::{check, leave, new_budget};
-use crate::{Budget, Hog};
+use crate::budget::Budget;
+use crate::support::{all_memory, check, leave, new_budget};
 use event_queue::{
     Call, IntoNotification, IntoTagged, Key, List, ListenError, NotifyError, RegisterResult, State,
     Woken,
@@ -85,7 +85,7 @@ fn a_queue_is_dropped_with_its_tags_and_tasks_without_memory(rt: HostRuntime) {
         list.register_uncounted(key, Counted(drops));
     }
     list.reserve(HALF).expect(&rt, "room");
-    let hog = Hog::new(rt.alloc()).expect(&rt, "all memory");
+    let hog = all_memory(&rt);
     let told = list.notify_uncounted(&mut HALF.tag_with(|| Counted(drops)), &mut woken);
     check(&rt, "told", told, Ok(HALF));
     dropped(&rt, "those that are kept", drops, 0);

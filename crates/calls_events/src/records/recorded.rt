@@ -1,7 +1,7 @@
 //! Recorded events as subjects.
-use crate::hand_calls::HandCalls;
+use crate::records::hand_calls::HandCalls;
+use crate::wakes::{Runtime, Wakes};
 use calls::{Act, Answer, Call, Kind, Notice, Reply, Request, Subject, Tags};
-use calls_events::{Runtime, Wakes};
 use event_listener::Hand;
 use futures::task::Waker;
 use std::alloc::AllocError;

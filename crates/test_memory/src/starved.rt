@@ -1,5 +1,5 @@
 //! Calls that are made with little memory.
-use crate::Budget;
+use crate::budget::Budget;
 use std::alloc::AllocError;
 
 /// A call that is made with little memory.

@@ -1,13 +1,12 @@
 //! What `print_rows` prints.
-use crate::print::print_rows;
-use crate::refused::{check, new_budget};
+use crate::hooks::{Calls, Refusing, Wrong};
+use crate::support::{Runtime, check, new_budget};
 use calls::{Hook, Undisturbed};
-use calls_events::Runtime;
+use calls_events::print_rows;
 use std::process::Abort;
-use test_queue_memory::{Calls, Refusing, Wrong};
 use test_support::Screen;
 
-fn new_screen<R: Runtime + Abort>(rt: &R) -> Screen {
+fn new_screen<R: Runtime>(rt: &R) -> Screen {
     Screen::new(rt.alloc()).expect(rt, "room for a text")
 }
 
@@ -16,7 +15,7 @@ fn text_of<R: Abort>(rt: &R, screen: &Screen) -> String {
 }
 
 // The rows of a text, printed with this hook: whether the answer is that none differs, and how many do.
-fn print_with<R: Runtime + Abort, H: Hook>(
+fn print_with<R: Runtime, H: Hook>(
     rt: &R,
     rows: &str,
     wanted: &str,
@@ -63,7 +62,7 @@ struct Printing<'r, R> {
     wanted: &'r str,
 }
 
-impl<'r, R: Runtime + Abort> Calls for Printing<'r, R> {
+impl<'r, R: Runtime> Calls for Printing<'r, R> {
     // Where a call is refused, its row alone differs, and the answer says so.
     fn make(&self, hook: &mut Refusing) -> bool {
         let (none_differs, differ) = print_with(self.rt, self.rows, self.wanted, hook);
@@ -74,7 +73,7 @@ impl<'r, R: Runtime + Abort> Calls for Printing<'r, R> {
 
 /// Prints the rows of the text: with each of their requests refused in turn, and with no memory, where none can be tried
 /// and each has its line. Answers how many calls make requests.
-pub fn print_refused<R: Runtime + Abort>(rt: &R, rows: &'static str) -> Result<usize, Wrong> {
+pub fn print_refused<R: Runtime>(rt: &R, rows: &'static str) -> Result<usize, Wrong> {
     let screen = new_screen(rt);
     let none_differs = print_rows(rt, &screen, &[rows], &mut Undisturbed);
     check(rt, "no row differs", none_differs.ok(), Some(true));

@@ -1,7 +1,7 @@
 //! Prints how rows end.
-use crate::rows::{TEXTS, run};
+use crate::wakes::Runtime;
+use crate::worked::{TEXTS, run_row};
 use calls::{Hook, Row};
-use calls_events::Runtime;
 use std::io;
 
 /// Prints how each row of the texts ends, in order of number: a line `row N ok` or `row N differs`, and the difference to the
@@ -38,7 +38,7 @@ where
     H: Hook,
 {
     let number = row.number;
-    match run(row, rt, hook) {
+    match run_row(row, rt, hook) {
         Ok(()) => {
             println!(screen; "row {number} ok")?;
             Ok(true)

@@ -1,15 +1,10 @@
 //! Each text.
-use crate::events::EVENTS;
-use crate::queue::QUEUE;
-use crate::records::RECORDS;
-use crate::refused::printed::print_refused;
-use crate::refused::{check, new_budget};
-use crate::rows::run;
+use crate::hooks::{Calls, Refusing, Starving};
+use crate::rows::printed::print_refused;
+use crate::support::{Runtime, check, new_budget};
 use calls::worlds::WORLDS;
 use calls::{Request, Row};
-use calls_events::Runtime;
-use std::process::Abort;
-use test_queue_memory::{Calls, Refusing, Starving};
+use calls_events::{EVENTS, QUEUE, RECORDS, run_row};
 
 // What no worked row has.
 const OTHERS: &str = "
@@ -145,12 +140,12 @@ struct OneRow<'r, R> {
 
 impl<'r, R: Runtime> Calls for OneRow<'r, R> {
     fn make(&self, hook: &mut Refusing) -> bool {
-        run(self.row, self.rt, hook).is_ok()
+        run_row(self.row, self.rt, hook).is_ok()
     }
 }
 
 // Makes each row of the text with its requests for memory refused in turn, and answers how many calls may make any.
-fn refuse_each<R: Runtime + Abort>(rt: &R, hook: &mut Refusing, text: &'static str) -> usize {
+fn refuse_each<R: Runtime>(rt: &R, hook: &mut Refusing, text: &'static str) -> usize {
     let mut asking = 0usize;
     for place in 0..usize::MAX {
         let Some(row) = Row::nth(text, place) else {
@@ -165,14 +160,14 @@ fn refuse_each<R: Runtime + Abort>(rt: &R, hook: &mut Refusing, text: &'static s
 }
 
 // Makes the rows of the text with no memory during the calls that are to take none.
-fn starve_each<R: Runtime + Abort>(rt: &R, family: Family<'_>) {
+fn starve_each<R: Runtime>(rt: &R, family: Family<'_>) {
     let mut hook = Starving::new(new_budget(rt));
     let mut rows = 0usize;
     for place in 0..usize::MAX {
         let Some(row) = Row::nth(family.text, place) else {
             break;
         };
-        if let Err(difference) = run(row, rt, &mut hook) {
+        if let Err(difference) = run_row(row, rt, &mut hook) {
             panic!(rt; "{difference}");
         }
         rows = rows.wrapping_add(1);
@@ -184,7 +179,7 @@ fn starve_each<R: Runtime + Abort>(rt: &R, family: Family<'_>) {
 }
 
 // Answers how many calls may ask for memory.
-fn check_family<R: Runtime + Abort>(rt: &R, family: Family<'_>) -> usize {
+fn check_family<R: Runtime>(rt: &R, family: Family<'_>) -> usize {
     let mut hook = Refusing::new(new_budget(rt));
     let asking = refuse_each(rt, &mut hook, family.text);
     for (request, least) in family.requests.iter() {
@@ -197,7 +192,7 @@ fn check_family<R: Runtime + Abort>(rt: &R, family: Family<'_>) -> usize {
 }
 
 // Each call that asks for memory is refused where the rows are printed, too.
-fn check_printed<R: Runtime + Abort>(rt: &R, family: Family<'_>) {
+fn check_printed<R: Runtime>(rt: &R, family: Family<'_>) {
     let asking = check_family(rt, family);
     check(rt, "printed", print_refused(rt, family.text), Ok(asking));
 }

@@ -1,9 +1,8 @@
 //! What no clause of `event_worlds` says: how many clients a world may have; that what is no schedule changes nothing, and that a
 //! row which is wrong is found, and where.
-use calls::worlds::run_on_worlds;
-use calls::{Difference, Row, Undisturbed};
-use std::alloc::AllocGlobal;
-use std::process::Abort;
+use crate::rows::{hold, made};
+use crate::support::reads;
+use calls::Row;
 
 const RIGHT: &str = "
 What is no schedule, and no size, leaves the world that was.
@@ -75,6 +74,36 @@ r1999:3 -> 3: r1999 Holding has 7 owes 1, messages 0/2000
 s2000:Send7 r2000:Go -> 0
 ";
 
+const CROWDS: &str = "
+The last of 5,000 has the lock, and the first waits for it.
+row 1 mutex 5000
+4999:2 0:5 -> 7: 0 Parked, 4999 Holding, lock 4999
+4999:2 -> 2: 0 Parked told wake, 4999 Idle, lock free
+0:3 -> 3: 0 Holding, lock 0
+5000:Go -> 0
+
+The last of 5,000 waits for a flag that the last of 5,000 sets.
+row 2 flag 5000 5000
+4999:4 -> 4: 4999 Parked
+9999:2 -> 2: 4999 Parked told wake, 9999 Done, flag true
+4999:3 -> 3: 4999 Done
+10000:Go -> 0
+
+The last of 5,000 has the permit, and the first waits for it.
+row 3 semaphore 5000 1
+4999:2 0:5 -> 7: 0 Parked, 4999 Holding has 1, free 0/1
+4999:2 -> 2: 0 Parked told wake, 4999 Idle, free 1/1
+0:3 -> 3: 0 Holding has 1, free 0/1
+5000:Go -> 0
+
+The last of 5,000 senders notifies the last of 5,000 receivers.
+row 4 channel 5000 5000 5000
+r4999:5 -> 5: r4999 Parked
+s4999:Send7 s4999:2 -> 3: s4999 Idle has 7, r4999 Parked told wake, messages 1/5000 7
+r4999:3 -> 3: r4999 Holding has 7 owes 1, messages 0/5000
+s5000:Send7 r5000:Go -> 0
+";
+
 const WRONG: &str = "
 Another count of steps.
 row 1 mutex 2
@@ -108,26 +137,6 @@ const FOUND: [&str; 5] = [
     "row 5, line 2: 1:3 -> 3: 1 Holding, lock 1: but it answers 0",
 ];
 
-// Where the row of that number in the text does not hold.
-fn difference<'t, R: Abort + AllocGlobal>(
-    rt: &R,
-    text: &'t str,
-    place: usize,
-) -> Option<Difference<'t>> {
-    let row = Row::nth(text, place).expect(rt, "there is such a row");
-    let run = run_on_worlds(row, rt.alloc(), &mut Undisturbed);
-    run.expect(rt, row.subject).err()
-}
-
-// All of the first so many rows of the text hold.
-fn hold<R: Abort + AllocGlobal>(rt: &R, text: &str, rows: usize) {
-    for place in 0..rows {
-        if let Some(difference) = difference(rt, text, place) {
-            panic!(rt; "{difference}");
-        }
-    }
-}
-
 #[test]
 fn what_is_no_schedule_changes_nothing(rt: HostRuntime) {
     hold(&rt, RIGHT, 1);
@@ -144,11 +153,17 @@ fn a_world_of_two_thousand_works(rt: HostRuntime) {
     hold(&rt, LARGE, 4);
 }
 
+// 5,000 clients, of which the last counts as much as the first.
+#[test]
+fn a_world_of_five_thousand_works(rt: HostRuntime) {
+    hold(&rt, CROWDS, 4);
+}
+
 #[test]
 fn what_is_wrong_is_found(rt: HostRuntime) {
     for (place, found) in FOUND.iter().enumerate() {
-        let difference = difference(&rt, WRONG, place).expect(&rt, found);
-        let text = format!(in rt.alloc(); "{difference}").expect(&rt, found);
-        assert_eq!(rt; text.as_str(), *found);
+        let row = Row::nth(WRONG, place).expect(&rt, "a row");
+        let difference = made(&rt, row).expect_err(&rt, found);
+        reads(&rt, format!(in rt.alloc(); "{difference}"), found);
     }
 }

@@ -1,6 +1,6 @@
 //! Whether the memory that tests take is refused, and all of it.
-use crate::support::{check, leave, new_budget};
-use crate::{Budget, Hog};
+use crate::budget::Budget;
+use crate::support::{all_memory, check, leave, new_budget};
 use std::alloc::{AllocError, AllocGlobal, Global};
 use std::process::Abort;
 
@@ -34,14 +34,14 @@ fn a_hog_refuses_every_request_until_it_is_dropped(rt: HostRuntime) {
     let kept = parted_by_holes(&rt);
     // It takes all a second time too.
     for _ in 0..2 {
-        let hog = Hog::new(rt.alloc()).expect(&rt, "all memory");
+        let hog = all_memory(&rt);
         are_granted(&rt, false);
         check(&rt, "room in a vector", full.push(8).is_ok(), false);
         drop(hog);
         are_granted(&rt, true);
     }
     check(&rt, "room in a vector", full.push(8).is_ok(), true);
-    let _hog = Hog::new(rt.alloc()).expect(&rt, "all memory");
+    let _hog = all_memory(&rt);
     // What is freed under the hog is granted again.
     drop(kept);
     is_granted(&rt, 24, true);
