@@ -17,7 +17,6 @@
 //! | `waits::limits` | a told listener gives its tag at once, without parking; a timed wait parks until its limit, and ends no earlier and soon after it, by clocks that are slow, go back, fail, can't be read or notify; a task that polls is woken only once its listener is told, and a finished listener does not wait |
 //! | `waits::wakes` | a notification and the drop of a told listener wake parked threads; a thread is told before it looks for its listener, before it parks, as it does so, or after |
 //! | `waits::threads` | eight threads with a hand each make one record, which has each of their calls and of their drops once; two threads tell each other by two recorded events |
-//! | `waits::awaited` | tasks that await listeners, and move between threads: that they are woken, and how often they are polled |
 //!
 //! Events are tested with both kinds of listener. How many each notification tells, worked rows and `soak` show, which compares
 //! all calls that need no second thread, and their records, with a queue. Refused memory is tested in `test_memory`. Not tested:

@@ -1,5 +1,4 @@
 //! Waits for listeners: when one ends, by the clock of its listener, and that a thread parks until it is woken.
-mod awaited;
 mod limits;
 mod recorded;
 mod stage;

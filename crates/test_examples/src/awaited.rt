@@ -2,7 +2,7 @@
 //! until it is told, with room for a wake or two; a task that spins is polled some hundred thousand times.
 ghost use Rattle.std.specs.Prelude.{All};
 
-use crate::support::{check, listen_as, new_event};
+use crate::support::{check, new_id};
 use event_listener::{
     Event, EventListener, IntoNotification, IntoTagged, NeverInserted, StackListener,
 };
@@ -47,6 +47,20 @@ impl<L: Awaited> Future for Counted<'_, L> {
         self.listener.can_be_polled();
         Future::poll(&mut self.listener, cx)
     }
+}
+
+// A new event.
+fn new_event<R: Abort>(rt: &R) -> Event<u32> {
+    Event::with_tag(new_id(rt))
+}
+
+// A new listener of this kind.
+fn listen_as<'ev, K, L, R>(rt: &R, event: &'ev Event<u32>) -> L
+where
+    K: ListenerKind<'ev, u32, R, Listener = L>,
+    R: Runtime,
+{
+    K::listen(rt, rt.alloc(), event).expect(rt, "a listener")
 }
 
 fn counting<L>(listener: L, polls: &AtomicU32) -> Counted<'_, L> {
