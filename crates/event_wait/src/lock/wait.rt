@@ -110,6 +110,9 @@ pub fn wait<L: Waitable<Q>, Q, R: Wait + Clock>(
             Attempted::Done(output) => return Ok(Some(output)),
             Attempted::Waits(_) => {}
             Attempted::Absent => {
+                if limit.has_passed(rt) {
+                    return leave_late(lock, rt, request);
+                }
                 let_others_come();
                 continue;
             }

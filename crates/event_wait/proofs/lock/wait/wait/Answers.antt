@@ -16,8 +16,15 @@ returns-in-Some-left-clause-waits g c =
     let lock = g.L.Waitable.rules c.args.lock.now in
     let some = c.loop.invariant.3 in
     let last = c.in-Waits.ensures.waited in
-    leaves_late lock lock.waits lock.succeeds (OneRoundAtLeast lock.waits) _ _ _ _ _ (Prim.search (rules)) (one_at_least _ _ _ _ some last) (one_more _ _ _ _ some last) c.leave_late.ensures.left c.leave_late.ensures.failed
+    leaves_late lock lock.waits lock.succeeds (OneRoundAtLeast lock.waits) _ _ _ _ _ (Prim.search (rules)) (one_at_least _ _ _ _ some last) (one_more _ _ _ _ some last) c.leave_late-in-Some-left.ensures.left c.leave_late-in-Some-left.ensures.failed
 
 pub loop-preserved : goal.loop-preserved
 loop-preserved g c =
     (tt, tt, c.in-Waits.ensures.fits, one_more _ _ _ _ c.loop.invariant.3 c.in-Waits.ensures.waited)
+
+pub returns-then-has_passed-clause-waits : goal.returns-then-has_passed-clause-waits
+returns-then-has_passed-clause-waits g c =
+    let lock = g.L.Waitable.rules c.args.lock.now in
+    let some = c.loop.invariant.3 in
+    let last = c.in-Absent.ensures.waited in
+    leaves_late lock lock.waits lock.succeeds (OneRoundAtLeast lock.waits) _ _ _ _ _ (Prim.search (rules)) (one_at_least _ _ _ _ some last) (one_more _ _ _ _ some last) c.leave_late.ensures.left c.leave_late.ensures.failed
