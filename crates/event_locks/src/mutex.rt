@@ -109,7 +109,7 @@ impl<T: Drop> Mutex<T> {
     ///
     /// Newcomers are shut out while a waiter starves, and while a thread that tried sixteen times in vain puts the queue back. A
     /// call that finds nothing for the sake of a starving waiter counts against that waiter, as the description of the type
-    /// says. The call takes no memory. It blocks only where the last such call has a waiter struck off, for the queue.
+    /// says. The call takes no memory and never blocks.
     ///
     /// While the guard in `taken` is kept, another wait for the value ends at its limit without it, so `in_time` is `false`:
     ///

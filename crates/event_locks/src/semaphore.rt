@@ -128,7 +128,8 @@ impl Semaphore {
     /// failed.
     ///
     /// Newcomers are shut out while a waiter starves, and while a thread that tried sixteen times in vain puts the queue back. The
-    /// call takes no memory and never blocks.
+    /// call takes no memory. It blocks only where newcomers are shut out for a waiter that starves, to wake more than eight
+    /// waiters.
     #[must_use = "a guard that is dropped at once gives back what it holds"]
     #[inline(always)]
     pub fn try_acquire<'a, R: Wait + Clock>(
@@ -170,7 +171,7 @@ impl Semaphore {
     /// Takes `n` permits at once by one guard, if as many are free, the semaphore is open and newcomers are not shut out. Else
     /// takes none.
     ///
-    /// The call takes no memory and never blocks. No wait asks for more than one permit, because the queue counts one for each
+    /// The call takes no memory, and blocks only as `try_acquire` does. No wait asks for more than one permit, because the queue counts one for each
     /// waiter. Do not wait for several one after another: two callers that each have some of them would wait for each other.
     #[must_use = "a guard that is dropped at once gives back what it holds"]
     pub fn try_acquire_many<'a, R: Wait + Clock>(
