@@ -62,6 +62,7 @@ enum Left {
     InFront,
     PassedByAThread,
     PassedByATask,
+    WaitedForTooLong,
     Rounds,
 }
 
@@ -83,6 +84,7 @@ impl<R: Runtime> Case<R> for Left {
             Left::InFront => in_front(rt, kind),
             Left::PassedByAThread => passed_by_a_thread(rt, kind),
             Left::PassedByATask => passed_by_a_task(rt, kind),
+            Left::WaitedForTooLong => waited_for_too_long(rt, kind),
             Left::Rounds => rounds(rt, kind),
         }
     }
@@ -206,6 +208,41 @@ fn passed_by_a_task<R: Runtime, K: Kind>(rt: &R, kind: &K) {
     drop(one);
 }
 
+// Has a newcomer take the lock, once the starving waiter is struck off.
+fn hold_at_last<K: Kind>(kind: &K) -> Option<K::Held> {
+    for _ in 0..100_000 {
+        let got = kind.hold();
+        let [free, _, _, _] = kind.counts().map_or([0; 4], numbers);
+        if free == 0 {
+            return Some(got);
+        }
+    }
+    None
+}
+
+// Newcomers are to be refused some thousand times for the sake of a waiter that lost eight times. A thread ends its wait at its
+// limit long before, and has nothing.
+fn waited_for_too_long<R: Runtime, K: Kind>(rt: &R, kind: &K) {
+    let mut one = starve(rt, kind);
+    for _ in 0..6 {
+        let held = hold_at_last(kind).expect(rt, "the lock");
+        check(rt, "whether it is granted", one.is_ready(), false);
+        let held = lose(rt, kind, &mut one, held);
+        drop(held);
+        stands(rt, kind, [1, 1, 0, 1]);
+    }
+    let waits = kind.waits().expect(rt, "a share");
+    let given = waits.wait_timeout(Duration::from_millis(1));
+    check(
+        rt,
+        "in time",
+        given.expect(rt, "an answer").is_some(),
+        false,
+    );
+    stands(rt, kind, [1, 1, 0, 1]);
+    check(rt, "whether it is granted", one.is_ready(), true);
+}
+
 // Returns at which of its polls a starving waiter finds the lock free that polls only after so many attempts of a newcomer, or
 // once the newcomer has the lock.
 fn served_at<R: Runtime, K: Kind>(rt: &R, kind: &K, attempts: usize) -> usize {
@@ -245,7 +282,12 @@ fn one_that_is_left_alone_stops_nobody(rt: HostRuntime) {
 
 #[test]
 fn one_in_time_finds_the_lock_free(rt: HostRuntime) {
-    for case in [Left::InTime, Left::InFront, Left::Rounds] {
+    for case in [
+        Left::InTime,
+        Left::InFront,
+        Left::WaitedForTooLong,
+        Left::Rounds,
+    ] {
         each(&rt, &rt, &case).expect(&rt, "memory");
     }
 }
