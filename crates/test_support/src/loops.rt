@@ -1,5 +1,4 @@
 //! Loops of threads that race, or wait for one another without a lock, and threads that are let in.
-use crate::runtimes::Runtime;
 use std::io;
 use std::marker::Send;
 use std::sync::Wait;
@@ -35,7 +34,7 @@ pub fn for_two_seconds<R: Wait + Clock, F: Fn()>(rt: &R, once: F) -> io::Result<
 /// call returns is kept until then.
 pub fn is_let_in<R, W, C, G>(rt: &R, waits: W, call: C) -> bool
 where
-    R: Runtime + Threads + Sync,
+    R: Wait + Clock + Threads + Sync,
     W: FnOnce() -> bool + Send,
     C: FnOnce() -> G + Send,
     G: Drop + Send,
