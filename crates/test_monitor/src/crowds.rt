@@ -188,6 +188,7 @@ fn all_are_woken<R: Runtime, F: Future, M: Fn() -> F, D: FnOnce()>(rt: &R, make:
 where
     F: Drop,
     F::Output: Drop,
+    requires polls { (waits : F) → F.can_poll waits }
     requires makes { M.IsAlwaysCallable make }
     requires does { D.IsAlwaysCallable does }
 {
