@@ -6,7 +6,7 @@ use event_locks::{FORBEARANCE, Mutex, Semaphore};
 use std::alloc::{AllocError, AllocGlobal, Global};
 use std::sync::Arc;
 use std::time::Duration;
-use test_kinds::{Case, Kind, Of, Waits, each, numbers};
+use test_kinds::{Kind, Of, Waits, numbers};
 use test_support::Runtime;
 
 // Has a waiter be notified and find the lock taken, once.
@@ -66,28 +66,27 @@ enum Left {
     Rounds,
 }
 
-impl<R: Runtime> Case<R> for Left {
-    fn waiters(&self) -> usize {
-        2
+fn run<R: Runtime, K: Kind>(rt: &R, kind: &K, left: Left) {
+    match left {
+        Left::InTime => in_time(rt, kind),
+        Left::Late => late(rt, kind),
+        Left::LateAndFree => late_and_free(rt, kind),
+        Left::LateAtItsLimit => late_at_its_limit(rt, kind),
+        Left::Dropped => dropped(rt, kind),
+        Left::InFront => in_front(rt, kind),
+        Left::PassedByAThread => passed_by_a_thread(rt, kind),
+        Left::PassedByATask => passed_by_a_task(rt, kind),
+        Left::WaitedForTooLong => waited_for_too_long(rt, kind),
+        Left::Rounds => rounds(rt, kind),
     }
+}
 
-    fn run<K: Kind>(&self, rt: &R, kind: &K) {
-        if kind.counts().is_none() {
-            return;
-        }
-        match self {
-            Left::InTime => in_time(rt, kind),
-            Left::Late => late(rt, kind),
-            Left::LateAndFree => late_and_free(rt, kind),
-            Left::LateAtItsLimit => late_at_its_limit(rt, kind),
-            Left::Dropped => dropped(rt, kind),
-            Left::InFront => in_front(rt, kind),
-            Left::PassedByAThread => passed_by_a_thread(rt, kind),
-            Left::PassedByATask => passed_by_a_task(rt, kind),
-            Left::WaitedForTooLong => waited_for_too_long(rt, kind),
-            Left::Rounds => rounds(rt, kind),
-        }
-    }
+// Runs a case with a semaphore and a mutex, the locks at which waiters compete with newcomers.
+fn run_with_each<R: Runtime + Sync>(rt: &R, left: Left) {
+    let semaphore = new_semaphore(rt, 1);
+    run(rt, &Of::<_, _, ()>::new(&semaphore, rt, rt.alloc()), left);
+    let mutex = new_mutex(rt, 7u64);
+    run(rt, &Of::<_, _, ()>::new(&mutex, rt, rt.alloc()), left);
 }
 
 // One newcomer fewer is refused than would strike the waiter off. The waiter finds the lock free.
@@ -190,21 +189,15 @@ fn passed_by_a_task<R: Runtime, K: Kind>(rt: &R, kind: &K) {
     let mut passes = kind.waits().expect(rt, "a share");
     let task = new_task(rt);
     for _ in 0..FORBEARANCE {
-        check(
-            rt,
-            "whether it is granted",
-            task.poll(&mut passes).is_ready(),
-            false,
-        );
+        passes.can_be_polled();
+        let is_ready = task.poll(&mut passes).is_ready();
+        check(rt, "whether it is granted", is_ready, false);
         check(rt, "whether it is woken", task.is_woken(), true);
     }
     stands(rt, kind, [1, 0, 0, 0]);
-    check(
-        rt,
-        "whether it is granted",
-        task.poll(&mut passes).is_ready(),
-        true,
-    );
+    passes.can_be_polled();
+    let is_ready = task.poll(&mut passes).is_ready();
+    check(rt, "whether it is granted", is_ready, true);
     drop(one);
 }
 
@@ -276,7 +269,7 @@ fn rounds<R: Runtime, K: Kind>(rt: &R, kind: &K) {
 #[test]
 fn one_that_is_left_alone_stops_nobody(rt: HostRuntime) {
     for case in [Left::PassedByAThread, Left::PassedByATask] {
-        each(&rt, &rt, &case).expect(&rt, "memory");
+        run_with_each(&rt, case);
     }
 }
 
@@ -288,7 +281,7 @@ fn one_in_time_finds_the_lock_free(rt: HostRuntime) {
         Left::WaitedForTooLong,
         Left::Rounds,
     ] {
-        each(&rt, &rt, &case).expect(&rt, "memory");
+        run_with_each(&rt, case);
     }
 }
 
@@ -300,7 +293,7 @@ fn one_that_is_late_waits_anew(rt: HostRuntime) {
         Left::LateAtItsLimit,
         Left::Dropped,
     ] {
-        each(&rt, &rt, &case).expect(&rt, "memory");
+        run_with_each(&rt, case);
     }
 }
 
