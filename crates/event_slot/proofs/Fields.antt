@@ -9,7 +9,7 @@ use denote.Struct.Laws.{RawPtr-copy, field_copy}
 use denote.Struct.Struct.{Shape, Struct, within}
 use denote.Struct.Owning.{shape}
 use Rattle.core.specs.contracts.marker.PhantomData as marker
-use Rattle.event_slot.specs.Holding.{Names, writer, writes, right_to, held, claim_shares, writing_shares}
+use Rattle.event_slot.specs.Holding.{Names, writer, writes, right_to, held, claim_shares, writing_shares, inner_shares}
 use Rattle.event_slot.specs.contracts.rest.Rest as rest
 use Rattle.event_slot.specs.contracts.rule.Mark as mark
 
@@ -119,6 +119,10 @@ module _ {M : Type 1} {𝓤 : Ura M} (𝓛 : Logic 𝓤) (β : Lft) (R : RattleT
   pub writer_sees : (p : Ptr) (x : R.Denot) (κ : Lft) → ent 𝓤 (sem 𝓛 (writing_shares β R p x κ)) (shown 𝓤 (InBlock p))
   writer_sees (block_ptr b o) x κ = fact_i 𝓤 (Unit {0}) _ tt
   writer_sees null_ptr x κ = never_e 𝓤 _
+
+  pub inner_sees : (U : RattleType) (p : Ptr) (y : U.Denot) (κ : Lft) → ent 𝓤 (sem 𝓛 (inner_shares β R U p y κ)) (shown 𝓤 (InBlock p))
+  inner_sees U (block_ptr b o) y κ = fact_i 𝓤 (Unit {0}) _ tt
+  inner_sees U null_ptr y κ = never_e 𝓤 _
 
   pub writes_some : (b o : ℕ) (t : Names) (v : Option R.Denot) → ent 𝓤 (sem 𝓛 (writes R b o t v)) (ex 𝓤 (λ (x : R.Denot). guard 𝓤 (Some x ≡ v) (sem 𝓛 (writer R b o t x))))
   writes_some b o t (Some x) = via 𝓤 _ (guard_i 𝓤 (Some x ≡ Some x) (sem 𝓛 (writer R b o t x)) refl) (ex_i 𝓤 (λ (z : R.Denot). guard 𝓤 (Some z ≡ Some x) (sem 𝓛 (writer R b o t z))) x)

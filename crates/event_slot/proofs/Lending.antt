@@ -1,5 +1,5 @@
 -- What a `&` to a claim or to a writer shows, made of a borrow of it. Assumes `Logic`.
-use Rattle.event_slot.proofs.Names.{ℕ, zero, suc, List, [], ◌∷◌, ◌++◌, Option, Some, None, Ura, full_share, Counts, Coded, SProp, ent, sep, wand, upd_i, never_e, id⊢, Lft, GName, Share, Incl, Incl-refl, Incl-trans, Fml, ftrue, ffalse, fsep, fseps, fwand, fupd, fdead, fobs, fbor, flft, finv, before, ⊑_meet, meet_⊑_left, meet_⊑_right, span, Logic, sem, lfts, ‵, raw, ◌⊛◌, later, ◌$◌, ◌∵◌, !, qed, by, move, keep, drop, split, split3, group, fsplit, fsplit3, fjoin, fjoin3, fpick, fpack, assume, suffices, use1, use2, use3, await, updating, now, done, bor_open, obor_close, obor_alter, bor_fracture, before_dup, before_shorten, Body, RattleType, RowLaws, Ptr, block_ptr, null_ptr, nothing, part_at, shared_of, mem, Shares, ShrLaws, contraction, shortens, said_shr_laws, within_shr_laws, Lends, Lends-false, by_one, out}
+use Rattle.event_slot.proofs.Names.{apply∗, ℕ, zero, suc, List, [], ◌∷◌, ◌++◌, Option, Some, None, Ura, full_share, Counts, Coded, SProp, ent, sep, wand, upd_i, never_e, id⊢, Lft, GName, Share, Incl, Incl-refl, Incl-trans, Fml, ftrue, ffalse, fsep, fseps, fwand, fupd, fdead, fobs, fbor, flft, finv, before, ⊑_meet, meet_⊑_left, meet_⊑_right, span, Logic, sem, lfts, ‵, raw, ◌⊛◌, later, ◌$◌, ◌∵◌, !, qed, by, move, keep, drop, split, split3, group, fsplit, fsplit3, fjoin, fjoin3, fpick, fpack, assume, suffices, use1, use2, use3, await, updating, now, done, bor_open, obor_close, obor_alter, bor_fracture, before_dup, before_shorten, Body, RattleType, RowLaws, Ptr, block_ptr, null_ptr, nothing, part_at, shared_of, mem, Shares, ShrLaws, contraction, shortens, said_shr_laws, within_shr_laws, Lends, Lends-false, by_one, out}
 use base.Share
 use denote.Moves.{moves, moves_before}
 use denote.Shares.{settles}
@@ -8,11 +8,15 @@ use Rattle.core.proofs.cell.Borrows.{unnest_before}
 use Rattle.counted_slot.specs.Counting.{tag, parts, seen, reader}
 use Rattle.counted_slot.proofs.Parts.{parts_in}
 use Rattle.counted_slot.proofs.Rounds.{seen_laws}
-use Rattle.event_slot.specs.Holding.{any, Names, count, place, lies, writer, Inv, kept, claim_owns, claim_shares, writing_owns, writing_shares}
+use Rattle.event_slot.specs.Holding.{any, Names, count, place, lies, writer, Inv, kept, claim_owns, claim_shares, writing_owns, writing_shares, inner_shares}
 
 pub writing_laws : (β : Lft) (R : RattleType) → RowLaws R → (p : Ptr) (x : R.Denot) → ShrLaws (writing_shares β R p x)
 writing_laws β R L (block_ptr b o) x = within_shr_laws β (shared_of R x b (place R b o)) (L x b (place R b o))
 writing_laws β R L null_ptr x = said_shr_laws ffalse tt
+
+pub inner_laws : (β : Lft) (R U : RattleType) → RowLaws U → (p : Ptr) (y : U.Denot) → ShrLaws (inner_shares β R U p y)
+inner_laws β R U L (block_ptr b o) y = within_shr_laws β (shared_of U y b (place R b o)) (L y b (place R b o))
+inner_laws β R U L null_ptr y = said_shr_laws ffalse tt
 
 module _ {M : Type 1} {𝓤 : Ura M} (𝓛 : Logic 𝓤) {W : Type 0} (cw : Coded W) (γ : ℕ) (R Q : RattleType) (c : ℕ → ℕ) (holds : ℕ → Option Q.Denot → List W → Type 0) (β : Lft) where
   open 𝓛 use {H, A}
@@ -119,3 +123,31 @@ module _ {M : Type 1} {𝓤 : Ura M} (𝓛 : Logic 𝓤) {W : Type 0} (cw : Code
       qed 𝓛 (‵ (fbor κ P) ∷ raw (lfts 𝓛 ts) ∷ []) ∵ updating ! $ use1 𝓛 (‵ (fbor ν P)) (𝓛.bors.bor_shorten κ ν P (meet_⊑_left κ β)) $
       use2 𝓛 (later (‵ (fbor ν At) ⊛ raw (lfts 𝓛 ts))) (by_one 𝓛 ν ts sm (A.bor ν P) ⟦ fbor ν At ⟧ (shows_value b o x ν (meet_⊑_right κ β))) $ await ! tt $
       use1 𝓛 (later (‵ (shared_of R x b (place R b o) ν) ⊛ raw (lfts 𝓛 ts))) (s x ν ts b (place R b o) inc sm) $ await ! tt $ now ! $ done !
+
+  -- the value is a U, which lies where it does: what is lent for ν is the U
+  module _ (U : RattleType) (to : R.Denot → U.Denot)
+      (splits : (x : R.Denot) (b o : ℕ) → ⟦ part_at R full_share x b o ⟧ ⊢ ⟦ part_at U full_share (to x) b o ⟧ ∗ (⟦ part_at U full_share (to x) b o ⟧ -∗ ⟦ part_at R full_share x b o ⟧)) where
+    module _ (x : R.Denot) (b o : ℕ) (ν : Lft) where
+      abbrev Outer : Fml
+      Outer = part_at R full_share x b o
+
+      abbrev Inner : Fml
+      Inner = part_at U full_share (to x) b o
+
+      outer_again : ⟦ Inner ⟧ -∗ ⟦ Outer ⟧ ⊢ ⟦ fwand (fsep (fdead ν) (fseps (Inner ∷ []))) (fupd Outer) ⟧
+      unfolding fseps
+      outer_again = qed 𝓛 (raw (⟦ Inner ⟧ -∗ ⟦ Outer ⟧) ∷ []) ∵ assume ! (‵ (fsep (fdead ν) (fsep Inner ftrue))) $ suffices ! ⟦ Outer ⟧ (upd_i 𝓤 ⟦ Outer ⟧) $ fsplit3 ! $ keep ! (1 ∷ 3 ∷ []) $ by ! (apply∗ 𝓤 ⟦ Inner ⟧ ⟦ Outer ⟧)
+
+      shows_inner : (q : Share) → A.bor ν Outer ∗ A.lft ν q ⊢ H.⇛ (⟦ fbor ν Inner ⟧ ∗ A.lft ν q)
+      unfolding fseps
+      shows_inner q = qed 𝓛 (‵ (fbor ν Outer) ∷ ‵ (flft ν q) ∷ []) ∵ updating ! $ bor_open ! tt $ move ! (1 ∷ []) $ use1 𝓛 (‵ Inner ⊛ raw (⟦ Inner ⟧ -∗ ⟦ Outer ⟧)) (splits x b o) $ split ! $ move ! (1 ∷ []) $
+          use1 𝓛 (‵ (fwand (fsep (fdead ν) (fseps (Inner ∷ []))) (fupd Outer))) outer_again $ nothing ! $ move ! (2 ∷ 0 ∷ []) $ fjoin ! $ move ! (2 ∷ 0 ∷ 1 ∷ []) $ obor_alter ! tt (Inner ∷ []) $
+          use1 𝓛 (‵ (fbor ν Inner) ⊛ ‵ ftrue) (id⊢ 𝓤 _) $ split ! $ now ! $ keep ! (0 ∷ 2 ∷ []) $ done !
+
+    pub Lends-inner : (l : Lft) → Incl l β → Shares 𝓛 U l → (p : Ptr) (x : R.Denot) → Lends 𝓛 (writing_owns cw.code γ R Q c holds β p x) (inner_shares β R U p (to x)) l
+    Lends-inner l le s null_ptr x = Lends-false 𝓛 (inner_shares β R U null_ptr (to x)) l
+    Lends-inner l le s (block_ptr b o) x = λ κ ts inc sp. let ν : Lft = κ ++ β in let P : Fml = writing_owns cw.code γ R Q c holds β (block_ptr b o) x in let e : ℕ = place R b o in let sm : Incl (span ts) ν = ⊑_meet (span ts) κ β sp (Incl-trans inc le) in
+        qed 𝓛 (‵ (fbor κ P) ∷ raw (lfts 𝓛 ts) ∷ []) ∵ updating ! $ use1 𝓛 (‵ (fbor ν P)) (𝓛.bors.bor_shorten κ ν P (meet_⊑_left κ β)) $
+        use2 𝓛 (later (‵ (fbor ν (Outer x b e ν)) ⊛ raw (lfts 𝓛 ts))) (by_one 𝓛 ν ts sm (A.bor ν P) ⟦ fbor ν (Outer x b e ν) ⟧ (shows_value b o x ν (meet_⊑_right κ β))) $ await ! tt $
+        use1 𝓛 (later (‵ (fbor ν (Inner x b e ν)) ⊛ raw (lfts 𝓛 ts))) (by_one 𝓛 ν ts sm (A.bor ν (Outer x b e ν)) ⟦ fbor ν (Inner x b e ν) ⟧ (shows_inner x b e ν)) $ await ! tt $
+        use1 𝓛 (later (‵ (shared_of U (to x) b e ν) ⊛ raw (lfts 𝓛 ts))) (s (to x) ν ts b e inc sm) $ await ! tt $ now ! $ done !

@@ -17,3 +17,4 @@ pub mod Steps
 pub mod Tracking
 pub mod Turning
 pub mod Rights
+pub mod Hiding

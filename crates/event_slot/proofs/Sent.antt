@@ -12,7 +12,7 @@ use types.Keyed.{entry_keyless}
 use Rattle.atomic_table.specs.Seated.{halved}
 use Rattle.atomic_table.proofs.Sent.{roster_keyless}
 use Rattle.counted_slot.specs.Counting.{Id, Phase, free, away, shared, state}
-use Rattle.event_slot.specs.Holding.{any, Names, count, place, behind, lies, writer, right_to, kept, claim_owns, writing_owns, claim_shares, writing_shares, rest_owns}
+use Rattle.event_slot.specs.Holding.{any, Names, count, place, behind, lies, writer, right_to, kept, claim_owns, writing_owns, claim_shares, writing_shares, inner_shares, rest_owns}
 use Rattle.event_slot.specs.Owning.{lent_by, owned_shares}
 use Rattle.event_slot.specs.contracts.leased.Leased as leased
 use Rattle.event_slot.specs.contracts.leased.Leased.TheInside as Inside
@@ -67,6 +67,10 @@ module _ (β : Lft) (R : RattleType) (y : IsSync R) where
   pub writing_common : (p : Ptr) (x : R.Denot) → Common (writing_shares β R p x)
   writing_common (block_ptr b o) x κ = y.shared x b (place R b o) (κ ++ β)
   writing_common null_ptr x κ = tt
+
+  pub inner_common : (O : RattleType) (p : Ptr) (x : R.Denot) → Common (inner_shares β O R p x)
+  inner_common O (block_ptr b o) x κ = y.shared x b (place O b o) (κ ++ β)
+  inner_common O null_ptr x κ = tt
 
 -- and to an `Arc` with a claim
 module _ (R : RattleType) (y : IsSync R) {S : Type 0} where

@@ -142,6 +142,11 @@ abbrev pub writing_shares : Lft → (R : RattleType) → Ptr → R.Denot → Lft
 writing_shares β R (block_ptr b o) x = within β (seen R b o x)
 writing_shares β R null_ptr x = said ffalse
 
+-- and where the value is a U, which lies where it does: the U
+abbrev pub inner_shares : Lft → (R U : RattleType) → Ptr → U.Denot → Lft → Fml
+inner_shares β R U (block_ptr b o) y = within β (shared_of U y b (place R b o))
+inner_shares β R U null_ptr y = said ffalse
+
 -- a mark at rest, or none
 abbrev pub rest_owns : {W : Type 0} → (W → Gv) → ℕ → ℕ → List W → Fml
 rest_owns e slot id [] = ftrue

@@ -5,6 +5,7 @@ ghost use mir.Syntax.{named};
 ghost use types.Logic.{sem};
 ghost use denote.Follow.{follows};
 ghost use Rattle.event_slot.specs.contracts.slot.Slot.{the_row as slot_row};
+ghost use Rattle.event_slot.specs.contracts.exclusive.Exclusive.{the_row as exclusive_row};
 ghost use Rattle.event_slot.specs.contracts.claim.Claim.{the_row as claim_row};
 ghost use Rattle.event_slot.specs.contracts.writing.Writing.{the_row};
 ghost use Rattle.event_slot.specs.contracts.tied.Tied.{the_row as tied_row};
@@ -12,6 +13,7 @@ ghost use Rattle.event_slot.specs.contracts.owned.Owned.{the_row as owned_row};
 ghost use Rattle.event_slot.specs.Lent.{claim_with, writing_with, tied_with, owned_with, owned_with_state};
 
 use crate::claim::Claim;
+use crate::exclusive::Exclusive;
 use crate::owned::Owned;
 use crate::rule::Ruled;
 use crate::slot::Slot;
@@ -25,6 +27,18 @@ impl<X: Ruled<S>, S> Slot<X, S> {
         ensures* writes_back { sem 𝓛
             (follows (slot_row X.row S.row X.View.row X.Key.row
             (record { counts = X.counts; holds = X.holds; first = X.first; announces = X.announces; owes = X.owes; may_sleep = X.may_sleep })) X.row self.entry.ghost_name result.ghost_name (λ _. self.old)) }
+    {
+        &mut self.value
+    }
+}
+
+impl<T> Exclusive<T> {
+    /// Borrows the value mutably where it lies.
+    #[inline(always)]
+    pub fn get_mut(&mut self) -> &mut T
+        ensures* writes_back { sem 𝓛
+            (follows (exclusive_row T.row) T.row self.entry.ghost_name result.ghost_name (λ w. w)) }
+        ensures value { result.now ≡ self.old }
     {
         &mut self.value
     }

@@ -24,6 +24,9 @@
 //! its value, which is [`Inside`]. An owned claim takes the same steps, lends the value and the state where they lie, and gives
 //! the `Arc` back at the end.
 //!
+//! A `&` to an [`Exclusive`] shows nothing of the value in it. A slot of such a value may be shared though the value may not, and
+//! only a writer reaches the value.
+//!
 //! A [`SetOnce`] is another thing: a value in place that is set at most once, and shared from then on. Each value that a cell may
 //! have fits the key of the cell, as [`Fits`] says.
 //!
@@ -34,6 +37,7 @@
 #![tactic(auto)]
 
 mod claim;
+mod exclusive;
 mod leased;
 mod lends;
 mod owned;
@@ -47,6 +51,8 @@ mod write_once;
 mod writing;
 
 pub use claim::Claim;
+pub use exclusive::Exclusive;
+pub use leased::Leased;
 pub use owned::{Inside, Owned};
 pub use rest::Rest;
 pub use rule::{Joins, Mark, Ruled, Splits, Tells, Trades};

@@ -2,7 +2,7 @@
 ghost use Rattle.std.specs.Prelude.{◌≡◌, ◌≢◌, ℕ, ◌<◌, ◌==◌, ◌++◌, Option, None, Some, IsSome};
 ghost use prog.Atomic.{either};
 ghost use Rattle.std.specs.Coded.{coded_option};
-ghost use Rattle.event_slot.specs.Ruling.{MayTurn, Becomes, Sees, MayTrade, StaysDue};
+ghost use Rattle.event_slot.specs.Ruling.{MayTurn, Becomes, Sees, Comes, MayTrade, StaysDue};
 ghost use Rattle.event_slot.specs.Holding.{Named};
 ghost use Rattle.event_slot.specs.Owning.{owned_owns, owned_shares};
 
@@ -12,7 +12,7 @@ use crate::rule::{Mark, Ruled, Trades};
 use crate::slot::Slot;
 use atomic_table::exchange;
 use std::alloc::Allocator;
-use std::marker::{Brand, Model};
+use std::marker::{Brand, Model, PhantomData};
 use std::sync::Arc;
 
 /// A value that a slot lies in, such as a lock.
@@ -37,8 +37,10 @@ struct Shared<T, A> {
 ///
 /// An owned claim can't be dropped: it ends by [`done`](Owned::done) once it has nothing of the slot.
 pub struct Owned<T, X: Ruled<S>, S, A: Allocator> {
-    pub(crate) slot: *const Slot<X, S>,
-    pub(crate) arc: Leased<T, A>,
+    /// Where the slot lies. Only code that is proved by hand makes an owned claim of its fields.
+    pub slot: *const Slot<X, S>,
+    /// The `Arc`, less its token.
+    pub arc: Leased<T, A>,
     /// What the `Arc` shares.
     pub ghost of: { T },
     /// The name of the slot.
@@ -113,6 +115,35 @@ impl<T, X: Ruled<S>, S, A: Allocator> Owned<T, X, S, A> {
         let Owned { slot, arc } = self;
         let found = unsafe { exchange::<Brand>(&raw const (*slot).word, old, new) };
         (found, Owned { slot, arc })
+    }
+
+    /// Changes the word as [`exchange`](Owned::exchange) does, by a compare-exchange that makes a mark, and returns that mark,
+    /// too.
+    pub fn arrive<M: Trades<X::View, S>>(
+        self,
+        old: u64,
+        new: u64,
+    ) -> (u64, Owned<T, X, S, A>, Mark<X::View>)
+        requires turn { MayTurn self.right (X.counts old) (X.counts new) }
+        requires keeps { Comes (X.holds self.key) self.state (λ n. either (n == old) new n)
+            (M.then old new (X.first self.key) self.state) }
+        requires owes { StaysDue X.owes X.announces old new (X.first self.key)
+            (M.then old new (X.first self.key) self.state) }
+        ensures becomes { (result.0 ≡ old → Becomes self.right (X.counts old) (X.counts new) result.1.right)
+            × (result.0 ≢ old → result.1.right ≡ self.right) × (result.1.name ≡ self.name)
+            × (result.1.key ≡ self.key) × (result.1.of ≡ self.of) }
+        ensures sees { Sees self.right (X.counts result.0) }
+        ensures value { self.right ≡ 1 → result.1.right ≡ 1 → result.1.value ≡ self.value }
+        ensures has { 0 < result.1.right → IsSome result.1.value }
+        ensures tells { (result.2.slot ≡ self.name)
+            × M.then old new (X.first self.key) self.state result.0 result.2.view result.1.state }
+    {
+        let Owned { slot, arc } = self;
+        let found = unsafe { exchange::<Brand>(&raw const (*slot).word, old, new) };
+        let mark = Mark {
+            marker: PhantomData,
+        };
+        (found, Owned { slot, arc }, mark)
     }
 
     /// Returns the `Arc`, and ends a claim that has nothing of the slot.

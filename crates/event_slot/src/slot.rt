@@ -12,7 +12,8 @@ use std::sync::atomic::raw;
 /// A value in place beside one atomic word, and a state behind both. A clause sees the slot's name, a number, and its key.
 pub struct Slot<X: Ruled<S>, S> {
     pub(crate) word: u64,
-    pub(crate) value: X,
+    /// The value. Only code that is proved by hand reaches it behind a `&`.
+    pub value: X,
     pub(crate) state: S,
 }
 

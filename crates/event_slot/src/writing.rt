@@ -9,8 +9,10 @@ use std::marker::{Model, PhantomData};
 
 /// The right to write the value of a slot, which no other thread reads or writes meanwhile. The right can't be dropped.
 pub struct Writing<'a, X: Ruled<S>, S> {
-    pub(crate) slot: *const Slot<X, S>,
-    pub(crate) marker: PhantomData<&'a X>,
+    /// Where the slot lies. Only code that is proved by hand makes a right to write of its fields.
+    pub slot: *const Slot<X, S>,
+    /// For how long the slot is borrowed.
+    pub marker: PhantomData<&'a X>,
     /// The name of the slot.
     pub ghost name: { ℕ },
     /// The key of the slot.
