@@ -1,5 +1,5 @@
 //! A mutex.
-ghost use Rattle.std.specs.Prelude.{◌≡◌, ◌<◌, IfSome, false, true};
+ghost use Rattle.std.specs.Prelude.{◌≡◌, ◌<◌, false, true};
 ghost use Rattle.event_wait.specs.Attempted.{Attempts, OnDone, OnRefused, OnUndone, key_of};
 ghost use Rattle.event_word.specs.Contender.{coming_of, losses_after};
 ghost use Rattle.event_word.specs.declared.contender.Coming.TheVariants.{New, Notified};
@@ -15,10 +15,9 @@ pub use self::lock::{Lock, LockArc};
 use crate::lending::Lending;
 use crate::taker::Taker;
 use event_queue::{Key, TaskExchange};
+use event_slot::{Exclusive, Inside, Slot};
 use event_wait::{Attempted, LockError, Obtaining, Shared, Task, WakerSource};
-use event_word::{
-    Coming, Competing, Counts, Held, Lent, Lodging, OneValue, Parked, Word, put_in, take_out,
-};
+use event_word::{Coming, Competing, Counts, Held, Lent, OneValue, Parked, Place, Word};
 use std::alloc::{AllocError, Global};
 use std::fmt;
 use std::fmt::{Debug, Formatter};
@@ -39,8 +38,8 @@ use std::time::Clock;
 ///
 /// Losses belong to one wait, so a caller that makes a new wait after each time limit may find nothing for ever.
 ///
-/// The value lies in the mutex while nobody has it, and else in the guard of its owner. Each lock therefore moves the value out
-/// and in again: box a large value.
+/// The value lies in the mutex at all times, and a guard lends it there: a lock moves no value, and a guard that is forgotten
+/// leaves the value in its place.
 ///
 /// Threads share a mutex by an `Arc`. Here each thread that pays into a balance has a share of its own, and at the end one
 /// thread reads the balance:
@@ -56,20 +55,30 @@ use std::time::Clock;
 /// ```
 #[derive(Drop)]
 pub struct Mutex<T> {
-    word: Word<Competing<OneValue>, Lodging<T>>,
+    word: Word<Line, Exclusive<T>>,
     source: WakerSource,
 }
 
-/// The right to the value of a mutex, and to the place where the value lies.
-pub(crate) type Right<'a, T> = Lent<'a, Competing<OneValue>, Lodging<T>>;
+/// The queue of a mutex.
+pub(crate) type Line = Competing<OneValue<MutexSlot>>;
 
-/// The value of a mutex, moved out, with a proof that the value is to be put back.
-pub(crate) struct Loan<T> {
-    value: T,
-    parked: Parked,
+// What the type of a mutex's slot is made of. The type is private: else any caller that has the mutex could reach, by `Inside`, the
+// slot in which the value lies.
+pub(crate) struct MutexSlot {}
+
+/// The right to the value of a mutex, where the value lies.
+pub(crate) type Right<'a, T> = Lent<'a, Line, Exclusive<T>>;
+
+// Finds, in a shared mutex, the slot to which a guard gives its right back.
+impl<T> Inside<Place<Exclusive<T>>, Line> for Mutex<T> {
+    ghost finds = { λ mutex. mutex.word.slot };
+
+    fn slot(&self) -> &Slot<Place<Exclusive<T>>, Line> {
+        &self.word.slot
+    }
 }
 
-impl<T: Drop> Mutex<T> {
+impl<T> Mutex<T> {
     /// Makes a mutex round `value`, which nobody has. This takes no memory; the queue takes some from `alloc` once somebody
     /// waits.
     ///
@@ -79,7 +88,7 @@ impl<T: Drop> Mutex<T> {
     pub fn new(alloc: Global, value: T) -> Self {
         let line = Competing::new(alloc);
         Mutex {
-            word: Word::new(1, line, Lodging::new(value)),
+            word: Word::new(1, line, Exclusive::new(value)),
             source: WakerSource::new(),
         }
     }
@@ -123,11 +132,11 @@ impl<T: Drop> Mutex<T> {
     #[must_use = "a guard that is dropped at once gives back what it holds"]
     #[inline(always)]
     pub fn try_lock<'a, R: Wait + Clock>(&'a self, rt: &'a R) -> Option<MutexGuard<'a, T, R>> {
-        let Some((lent, value)) = self.try_value(rt) else {
+        let Some(lent) = self.word.try_value() else {
             self.word.forbear(rt, 1);
             return None;
         };
-        Some(MutexGuard::with(Lending::new(self, rt), lent, value))
+        Some(MutexGuard::new(Lending::new(self, rt), lent))
     }
 
     /// Takes the value by a guard that may go to another thread, if nobody has the value and newcomers are not shut out.
@@ -139,13 +148,18 @@ impl<T: Drop> Mutex<T> {
     pub fn try_lock_arc<R: Wait + Clock + Drop>(
         this: &Arc<Self, Global>,
         rt: R,
-    ) -> Result<Option<MutexGuardArc<T, R>>, AllocError> {
+    ) -> Result<Option<MutexGuardArc<T, R>>, AllocError>
+    where
+        T: Drop,
+    {
         let lock = Arc::try_clone(this)?;
-        let Some(loan) = lock.try_borrow(&rt) else {
-            lock.word.forbear(&rt, 1);
-            return Ok(None);
-        };
-        Ok(Some(MutexGuardArc::new(Shared { lock, rt }, loan)))
+        match MutexGuardArc::come(Shared { lock, rt }) {
+            Ok(guard) => Ok(Some(guard)),
+            Err(hold) => {
+                hold.lock.word.forbear(&hold.rt, 1);
+                Ok(None)
+            }
+        }
     }
 
     /// Asks for the value, once the returned [`Lock`] is waited on or polled. Until then nothing happens.
@@ -173,101 +187,38 @@ impl<T: Drop> Mutex<T> {
         this: &Arc<Self, Global>,
         rt: R,
         alloc: Global,
-    ) -> Result<LockArc<T, R>, AllocError> {
+    ) -> Result<LockArc<T, R>, AllocError>
+    where
+        T: Drop,
+    {
         let lock = Arc::try_clone(this)?;
         Ok(LockArc::new(Obtaining::new(Shared { lock, rt }, alloc, Taker::default())))
     }
 
     /// Returns a reference to the value without locking, since `&mut self` says that nobody else uses the mutex.
-    ///
-    /// `None` says that a guard was forgotten: the value went with it.
-    pub fn get_mut(&mut self) -> Option<&mut T> {
-        self.word.get_mut()
+    pub fn get_mut(&mut self) -> &mut T {
+        self.word.value_mut().get_mut()
     }
 
-    /// Ends the mutex and returns its value. `None` says that a guard was forgotten: the value went with it.
-    pub fn into_inner(self) -> Option<T> {
+    /// Ends the mutex and returns its value.
+    pub fn into_inner(self) -> T {
         let Mutex { word, source: _ } = self;
-        word.into_value()
+        word.into_inner().into_inner()
     }
+}
 
-    // Moves the value out, and gives up the right to the place of the value.
-    fn lend_out<R: Wait>(&self, rt: &R, lent: Right<'_, T>) -> Loan<T>
-        requires { lent.name ≡ self.now.word.slot.name }
-        ensures { result.parked ≡ self.now.word.slot.name }
+// The steps of guards that share the mutex.
+impl<T> Mutex<T> {
+    // Gives a parked right back, and notifies the next waiter.
+    fn give_parked<R: Wait>(&self, rt: &R, parked: Parked)
+        requires { parked ≡ self.now.word.slot.name }
     {
-        let mut lent = lent;
-        let value = value_of(rt, &mut lent);
-        Loan {
-            value,
-            parked: self.word.park(rt, lent),
-        }
-    }
-
-    // Takes the right to the value, if a newcomer may, and moves the value out. Gives the right back, and returns `None`, if
-    // the value does not lie in its place.
-    #[inline(always)]
-    fn try_value<'a, R: Wait>(&'a self, rt: &R) -> Option<(Right<'a, T>, T)>
-        ensures { IfSome result (λ got. got.0.name ≡ self.now.word.slot.name) }
-    {
-        let mut lent = self.word.try_value()?;
-        match take_out(&mut lent) {
-            Some(value) => Some((lent, value)),
-            None => {
-                self.word.give_value(rt, lent);
-                None
-            }
-        }
-    }
-
-    fn try_borrow<R: Wait>(&self, rt: &R) -> Option<Loan<T>>
-        ensures { IfSome result (λ loan. loan.parked ≡ self.now.word.slot.name) }
-    {
-        let (lent, value) = self.try_value(rt)?;
-        Some(Loan {
-            value,
-            parked: self.word.park(rt, lent),
-        })
-    }
-
-    // Puts back a value that was moved out, and gives up the right to it.
-    fn take_back<R: Wait>(&self, rt: &R, loan: Loan<T>)
-        requires { loan.parked ≡ self.now.word.slot.name }
-    {
-        let Loan { value, parked } = loan;
-        let mut lent = self.word.unpark(rt, parked);
-        put_in(&mut lent, value);
+        let lent = self.word.unpark(rt, parked);
         self.word.give_value(rt, lent);
     }
 }
 
-// Moves the value out. The caller has the right to the place of the value.
-#[inline(always)]
-fn value_of<T, R: Wait>(rt: &R, lent: &mut Right<'_, T>) -> T
-    ensures { lent.new.name ≡ lent.old.name }
-{
-    match take_out(lent) {
-        Some(value) => value,
-        None => wait_for_value(rt, lent),
-    }
-}
-
-// Moves the value out as `value_of` does, where the value was not seen in its place: looks again until the value lies there.
-// This is a function of its own, so that `value_of` takes a few instructions where the value lies in its place.
-#[cold]
-#[inline(never)]
-fn wait_for_value<T, R: Wait>(rt: &R, lent: &mut Right<'_, T>) -> T
-    ensures { lent.new.name ≡ lent.old.name }
-{
-    for _ in rt.forever() {
-        if let Some(value) = take_out(lent) {
-            return value;
-        }
-    }
-    unreachable!()
-}
-
-impl<T: Drop> Debug for Mutex<T> {
+impl<T> Debug for Mutex<T> {
     /// Shows whether somebody has the value, and not the value.
     fn fmt<W: fmt::Write>(&self, f: &mut Formatter<W>) -> fmt::Result {
         f.debug_struct("Mutex")
@@ -280,7 +231,7 @@ impl<T: Drop> Debug for Mutex<T> {
 // that finds nothing only because newcomers are shut out is absent: it tries again.
 fn attempt_held<'a, T, C, X: TaskExchange<Task, C>, R: Wait>(
     rt: &R,
-    held: &mut Held<'a, Competing<OneValue>, Lodging<T>>,
+    held: &mut Held<'a, Line, Exclusive<T>>,
     place: &mut Option<Key>,
     losses: &mut u32,
     exchange: &X,

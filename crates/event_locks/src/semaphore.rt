@@ -171,8 +171,9 @@ impl Semaphore {
     /// Takes `n` permits at once by one guard, if as many are free, the semaphore is open and newcomers are not shut out. Else
     /// takes none.
     ///
-    /// The call takes no memory, and blocks only as `try_acquire` does. No wait asks for more than one permit, because the queue counts one for each
-    /// waiter. Do not wait for several one after another: two callers that each have some of them would wait for each other.
+    /// The call takes no memory, and blocks only as `try_acquire` does. No wait asks for more than one permit, because the queue
+    /// counts one for each waiter. Do not wait for several one after another: two callers that each have some of them would wait
+    /// for each other.
     #[must_use = "a guard that is dropped at once gives back what it holds"]
     pub fn try_acquire_many<'a, R: Wait + Clock>(
         &'a self,

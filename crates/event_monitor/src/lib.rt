@@ -1,5 +1,5 @@
-//! A barrier, a cell that is set once, and a monitor: each a state under a lock of `event_wait`, whose type says that nobody waits
-//! in vain.
+//! A barrier, a cell that is set once, and a monitor: each a state under a [`QuietLock`], which wakes tasks once it is given back.
+//! The type of each state says that nobody waits in vain.
 //!
 //! Nobody needs this crate to use a lock: [`event_locks`](../../event_locks/README.md) has them all. Read `ticket.rt` first,
 //! the place of a waiter to which a state hands something, then `barrier.rt` and `once_cell.rt`; `monitor.rt` stands alone.

@@ -1,5 +1,5 @@
 -- What each move of a number, and each step of the queue, keeps of what holds of both.
-use Rattle.std.proofs.Common.{◌≡◌, ℕ, ◌+◌, ◌-◌, ◌^◌, ◌<◌, ◌≤◌, Bool, true, false, not, List, [], ◌∷◌, ◌++◌, length, refl, sym, ap, ◌∙◌, subst, arith, zero, suc, Option, Some, None, IsSome, if◌then◌else◌, length-drop, ◌⊎◌, ⊎_elim, inl, inr}
+use Rattle.std.proofs.Common.{◌≡◌, ℕ, ◌+◌, ◌-◌, ◌^◌, ◌<◌, ◌≤◌, Bool, true, false, not, List, [], ◌∷◌, ◌++◌, length, refl, sym, ap, ◌∙◌, subst, arith, zero, suc, Option, Some, None, IsSome, length-drop, ◌⊎◌, ⊎_elim, inl, inr}
 use Rattle.std.specs.List.{list_any, filter}
 use Rattle.std.specs.Map.{keys_of, lookup, remove_entry}
 use Rattle.std.proofs.lemmas.List.{append_cancel_right}
@@ -12,7 +12,7 @@ use Rattle.event_queue.specs.Queue.{Queue}
 use Rattle.event_wait.specs.Line.{HasLeft, TellsUpTo, told_anew}
 use Rattle.event_wait.specs.FairQueue.{State, Comes, Forbears, ForbearsBy, IsStruck, Joins, WaitsOn, is_among}
 use Rattle.event_word.specs.Free.{free_of, Closes, IsClosed, IsOpen, IsShut, one_starving_is_told, ServesWith, ServesTheStarving, NobodyIsThere, NobodyWaits, ShutsForTheStarving, StandsIf}
-use Rattle.event_wait.specs.Starving.{Starving, but, less_forborne, struck_off}
+use Rattle.event_wait.specs.Starving.{Starving, but, struck_off}
 use Rattle.event_wait.proofs.StarvingLemmas.{joined_keys, keys-but, keys-counted_in, keys-less_forborne}
 use Rattle.event_wait.specs.declared.fair_queue.Queued.{Queued}
 

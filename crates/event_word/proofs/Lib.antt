@@ -3,3 +3,4 @@ pub mod WordKeeps
 pub mod FreeLemmas
 pub mod MoveLemmas
 pub mod EasesLemmas
+pub mod Placing

@@ -8,3 +8,4 @@ pub mod Held
 pub mod Count
 pub mod Queues
 pub mod Leaving
+pub mod Writer

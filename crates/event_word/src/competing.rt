@@ -79,10 +79,14 @@ impl Counted for Permits {
 }
 
 /// One value. The number is 1 while no thread has it, 0 while a thread has the right to it, and [`CLOSED`] while it is parked,
-/// which means that a thread has the value, and not the right to where it lies.
-pub struct OneValue {}
+/// which means that the value is a thread's that has not the right to it for a moment.
+///
+/// `K` is any type. A lock whose crate keeps that type private has a slot that no other crate can name.
+pub struct OneValue<K> {
+    of: PhantomData<K>,
+}
 
-impl Counted for OneValue {
+impl<K> Counted for OneValue<K> {
     ghost fits = { λ number. (free_of number ≤ 1) × (number ≤ 2 ^ 60) };
 
     ghost taken = { λ number. number == 0 };

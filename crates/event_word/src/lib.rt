@@ -42,5 +42,6 @@ pub use shares::share::{Grant, Out, Share};
 pub use shares::writing::Writing;
 pub use wakes::Room;
 pub use word::{
-    Held, Kept, Lent, Lodging, Parked, Permit, Place, Seat, Step, View, Word, put_in, take_out,
+    Held, Kept, Lent, OwnedClaim, OwnedValue, Parked, Permit, Place, Seat, Step, View, Word,
+    Writer, WriterArc,
 };

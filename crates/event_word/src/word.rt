@@ -4,9 +4,12 @@ ghost use Rattle.event_word.specs.Word.{Shows, nothing, number_of};
 
 mod competing;
 pub(crate) mod held;
+mod inner;
+mod inner_arc;
 mod kept;
 mod looks;
 mod origin;
+mod owned;
 mod parked;
 mod permit;
 mod permits;
@@ -16,17 +19,22 @@ mod step;
 mod take;
 mod turn;
 mod value;
+mod writer;
+mod writer_arc;
 
 pub use self::held::Held;
 pub use self::kept::Kept;
 pub(crate) use self::origin::Origin;
+pub use self::owned::{OwnedClaim, OwnedValue};
 pub use self::parked::Parked;
 pub use self::permit::Permit;
 use self::rule::Look;
 pub use self::rule::{Place, View};
 pub(crate) use self::rule::{Change, Enter};
 pub use self::step::Step;
-pub use self::value::{Lent, Lodging, put_in, take_out};
+pub use self::value::Lent;
+pub use self::writer::Writer;
+pub use self::writer_arc::WriterArc;
 use event_slot::{Claim, Mark, Slot};
 
 /// What a thread knows that makes steps on a lock's word. A seat has no bytes.

@@ -2,7 +2,7 @@
 use event_locks::{Barrier, Mutex, OnceCell, RwLock, Semaphore};
 use std::mem::size_of;
 
-const _: () = prove!(size_of::<Mutex<u64>>() == 168);
+const _: () = prove!(size_of::<Mutex<u64>>() == 152);
 
 const _: () = prove!(size_of::<RwLock<u64>>() == 216);
 

@@ -1,32 +1,23 @@
 //! Guards that own the value of a mutex.
-ghost use Rattle.std.specs.Prelude.{◌≡◌, []};
+ghost use Rattle.std.specs.Prelude.{◌≡◌, [], IfErr};
 ghost use mir.Syntax.{named};
 ghost use Rattle.std.specs.Arc.{arc_value};
 
-use super::{Loan, Mutex, Right, value_of};
+use super::{MutexSlot, Line, Mutex, Right};
 use crate::lending::Lending;
+use event_slot::Ties;
 use event_wait::Shared;
-use event_word::{Parked, put_in};
-use std::alloc::Global;
+use event_word::{OneValue, Parked, Writer, WriterArc};
 use std::fmt;
 use std::fmt::{Debug, Formatter};
 use std::marker::Model;
 use std::ops::{Deref, DerefMut};
-use std::sync::{Arc, Wait};
+use std::sync::Wait;
 use std::time::Clock;
 
-// The place to which a guard gives the value back, with the right to that place.
-struct Place<'a, T, R> {
-    hold: Lending<'a, Mutex<T>, R>,
-    lent: Right<'a, T>,
-    ghost own: { lent.name ≡ hold.lender.lock.now.word.slot.name },
-}
-
-// The place to which a guard gives the value back that has a share of the mutex. The guard finds the place again by the share.
-struct PlaceArc<T, R> {
-    hold: Shared<Mutex<T>, R>,
-    parked: Parked,
-    ghost own: { parked ≡ (arc_value hold.lock).word.slot.name },
+// Ties a right to the value to the mutex to which the guard gives the right back.
+impl<T, R> Ties for Lending<'_, Mutex<T>, R> {
+    ghost ties = { λ hold name. hold.lender.lock.now.word.slot.name ≡ name };
 }
 
 /// The value of a mutex, as long as its owner keeps this guard. Dropping the guard gives the value back, and notifies the next
@@ -43,9 +34,8 @@ struct PlaceArc<T, R> {
 /// Ok(())
 /// ```
 #[must_use = "a guard that is dropped at once gives back what it holds"]
-pub struct MutexGuard<'a, T: Drop, R: Wait + Clock> {
-    place: Place<'a, T, R>,
-    value: T,
+pub struct MutexGuard<'a, T, R: Wait + Clock> {
+    writer: Writer<'a, T, Line, Lending<'a, Mutex<T>, R>>,
 }
 
 /// The value of a mutex, by a guard that keeps the mutex by a share of its `Arc` and so may go to another thread.
@@ -53,75 +43,75 @@ pub struct MutexGuard<'a, T: Drop, R: Wait + Clock> {
 /// Dropping the guard gives the value back, and notifies the next waiter. A contract sees the guard as the value.
 #[must_use = "a guard that is dropped at once gives back what it holds"]
 pub struct MutexGuardArc<T: Drop, R: Wait + Clock + Drop> {
-    place: PlaceArc<T, R>,
-    value: T,
+    writer: WriterArc<Mutex<T>, T, Line>,
+    rt: R,
 }
 
-impl<'a, T: Drop, R: Wait + Clock> Model for MutexGuard<'a, T, R> {
+impl<'a, T, R: Wait + Clock> Model for MutexGuard<'a, T, R> {
     ghost Value = { T };
 
-    ghost view = { λ guard. guard.value };
+    ghost view = { λ guard. guard.writer.value };
 }
 
 impl<T: Drop, R: Wait + Clock + Drop> Model for MutexGuardArc<T, R> {
     ghost Value = { T };
 
-    ghost view = { λ guard. guard.value };
+    ghost view = { λ guard. guard.writer.value };
 }
 
-impl<'a, T: Drop, R: Wait + Clock> MutexGuard<'a, T, R> {
-    /// Makes the guard of a value that was moved out.
-    #[inline(always)]
-    pub(crate) fn with(hold: Lending<'a, Mutex<T>, R>, lent: Right<'a, T>, value: T) -> Self
-        requires { lent.name ≡ hold.lender.lock.now.word.slot.name }
-    {
-        MutexGuard {
-            place: Place { hold, lent },
-            value,
-        }
-    }
-
-    /// Moves the value out, and makes its guard.
+impl<'a, T, R: Wait + Clock> MutexGuard<'a, T, R> {
     #[inline(always)]
     pub(crate) fn new(hold: Lending<'a, Mutex<T>, R>, lent: Right<'a, T>) -> Self
         requires { lent.name ≡ hold.lender.lock.now.word.slot.name }
     {
-        let mut lent = lent;
-        let value = value_of(hold.rt, &mut lent);
-        Self::with(hold, lent, value)
-    }
-
-    /// Returns the mutex to which this guard belongs.
-    pub fn source(&self) -> &'a Mutex<T> {
-        self.place.hold.lender.lock
-    }
-}
-
-impl<T: Drop, R: Wait + Clock + Drop> MutexGuardArc<T, R> {
-    pub(crate) fn new(hold: Shared<Mutex<T>, R>, loan: Loan<T>) -> Self
-        requires { loan.parked ≡ (arc_value hold.lock).word.slot.name }
-    {
-        let Loan { value, parked } = loan;
-        MutexGuardArc {
-            place: PlaceArc { hold, parked },
-            value,
+        MutexGuard {
+            writer: Writer::new(lent, hold),
         }
     }
 
     /// Returns the mutex to which this guard belongs.
-    pub fn source(&self) -> &Arc<Mutex<T>, Global> {
-        &self.place.hold.lock
+    pub fn source(&self) -> &'a Mutex<T> {
+        self.writer.beside().lender.lock
     }
 }
 
-impl<T: Drop, R: Wait + Clock> Deref for MutexGuard<'_, T, R> {
+impl<T: Drop, R: Wait + Clock + Drop> MutexGuardArc<T, R> {
+    // Takes the value by one compare-exchange, if a newcomer may. Returns the mutex, as an `Err`, else.
+    #[inline(always)]
+    pub(super) fn come(hold: Shared<Mutex<T>, R>) -> Result<Self, Shared<Mutex<T>, R>>
+        ensures { IfErr result (λ again. arc_value again.lock ≡ arc_value hold.lock) }
+    {
+        let Shared { lock, rt } = hold;
+        match OneValue::<MutexSlot>::come(lock) {
+            Ok(owned) => Ok(MutexGuardArc {
+                writer: WriterArc::new(owned),
+                rt,
+            }),
+            Err(lock) => Err(Shared { lock, rt }),
+        }
+    }
+
+    // Makes the guard of a wait that was given the value while the queue was out.
+    pub(crate) fn new(hold: Shared<Mutex<T>, R>, parked: Parked) -> Self
+        requires { parked ≡ (arc_value hold.lock).word.slot.name }
+    {
+        let Shared { lock, rt } = hold;
+        let owned = parked.unpark(&rt, lock);
+        MutexGuardArc {
+            writer: WriterArc::new(owned),
+            rt,
+        }
+    }
+}
+
+impl<T, R: Wait + Clock> Deref for MutexGuard<'_, T, R> {
     type Target = T;
 
     ghost deref_gives = { λ guard value. value ≡ guard };
 
     #[inline(always)]
     fn deref(&self) -> &T {
-        &self.value
+        self.writer.get()
     }
 }
 
@@ -132,11 +122,11 @@ impl<T: Drop, R: Wait + Clock + Drop> Deref for MutexGuardArc<T, R> {
 
     #[inline(always)]
     fn deref(&self) -> &T {
-        &self.value
+        self.writer.get()
     }
 }
 
-impl<T: Drop, R: Wait + Clock> DerefMut for MutexGuard<'_, T, R> {
+impl<T, R: Wait + Clock> DerefMut for MutexGuard<'_, T, R> {
     ghost use Rattle.std.specs.Borrow.{Lends, sem};
     ghost use Rattle.event_locks.specs.contracts.mutex.guard.MutexGuard.{the_row};
 
@@ -149,7 +139,7 @@ impl<T: Drop, R: Wait + Clock> DerefMut for MutexGuard<'_, T, R> {
             result (λ w. w)) }
         ensures shows { result.now ≡ self.old }
     {
-        &mut self.value
+        self.writer.get_mut()
     }
 }
 
@@ -165,37 +155,40 @@ impl<T: Drop, R: Wait + Clock + Drop> DerefMut for MutexGuardArc<T, R> {
             result (λ w. w)) }
         ensures shows { result.now ≡ self.old }
     {
-        &mut self.value
+        self.writer.get_mut()
     }
 }
 
-impl<T: Drop, R: Wait + Clock> Drop for MutexGuard<'_, T, R> {
+impl<T, R: Wait + Clock> Drop for MutexGuard<'_, T, R> {
     #[inline(always)]
     fn drop(self) {
-        let MutexGuard { place, value } = self;
-        let Place { hold, lent } = place;
-        let mut lent = lent;
-        put_in(&mut lent, value);
+        let MutexGuard { writer } = self;
+        let (lent, hold) = writer.apart();
         hold.lender.lock.word.give_value(hold.rt, lent);
     }
 }
 
 impl<T: Drop, R: Wait + Clock + Drop> Drop for MutexGuardArc<T, R> {
     fn drop(self) {
-        let MutexGuardArc { place, value } = self;
-        let PlaceArc { hold, parked } = place;
-        hold.lock.take_back(&hold.rt, Loan { value, parked });
+        let MutexGuardArc { writer, rt } = self;
+        match OneValue::<MutexSlot>::go(&rt, writer.into_owned()) {
+            Ok(lock) => drop(lock),
+            Err((owned, word)) => {
+                let (lock, parked) = OneValue::<MutexSlot>::park(&rt, owned, word);
+                lock.give_parked(&rt, parked);
+            }
+        }
     }
 }
 
-impl<T: Drop + Debug, R: Wait + Clock> Debug for MutexGuard<'_, T, R> {
+impl<T: Debug, R: Wait + Clock> Debug for MutexGuard<'_, T, R> {
     fn fmt<W: fmt::Write>(&self, f: &mut Formatter<W>) -> fmt::Result {
-        Debug::fmt(&self.value, f)
+        Debug::fmt(self.writer.get(), f)
     }
 }
 
 impl<T: Drop + Debug, R: Wait + Clock + Drop> Debug for MutexGuardArc<T, R> {
     fn fmt<W: fmt::Write>(&self, f: &mut Formatter<W>) -> fmt::Result {
-        Debug::fmt(&self.value, f)
+        Debug::fmt(self.writer.get(), f)
     }
 }

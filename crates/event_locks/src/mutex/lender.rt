@@ -3,15 +3,15 @@ ghost use Rattle.std.specs.Prelude.{◌≡◌};
 ghost use Rattle.event_wait.specs.Rounds.{gives_what, tries_for};
 ghost use Rattle.event_locks.specs.Losses.{LosesOnceAtMost};
 
-use super::{Loan, Mutex, Right, attempt_held};
+use super::{Mutex, Right, attempt_held};
 use crate::lending::Lender;
 use crate::taker::Taker;
 use event_queue::TaskExchange;
 use event_wait::{Attempted, LockError, Obtainable, TakesAny, Task, Waitable, WakerSource};
-use event_word::Contender;
+use event_word::{Contender, Parked};
 use std::sync::Wait;
 
-impl<'a, T: Drop> Waitable<Taker> for Lender<'a, Mutex<T>> {
+impl<'a, T> Waitable<Taker> for Lender<'a, Mutex<T>> {
     type Output = Right<'a, T>;
 
     type Refusal = LockError;
@@ -54,7 +54,7 @@ impl<'a, T: Drop> Waitable<Taker> for Lender<'a, Mutex<T>> {
     }
 }
 
-impl<'a, T: Drop> Obtainable<Taker> for Lender<'a, Mutex<T>> {
+impl<'a, T> Obtainable<Taker> for Lender<'a, Mutex<T>> {
     ghost trying = { λ lender. tries_for (λ lent. lent.name ≡ lender.lock.now.word.slot.name) };
 
     #[inline(always)]
@@ -77,18 +77,18 @@ impl<'a, T: Drop> Obtainable<Taker> for Lender<'a, Mutex<T>> {
     }
 }
 
-impl<T: Drop> TakesAny<Taker> for Lender<'_, Mutex<T>> {
+impl<T> TakesAny<Taker> for Lender<'_, Mutex<T>> {
     ghost all_fit = { λ _ _. tt };
 }
 
-// A wait whose guard shares the mutex gets the value itself, moved out of its place.
-impl<T: Drop> Waitable<Taker> for Mutex<T> {
-    type Output = Loan<T>;
+// A wait whose guard shares the mutex gets the right parked: it has no lifetime, and the guard takes the right again by its share.
+impl<T> Waitable<Taker> for Mutex<T> {
+    type Output = Parked;
 
     type Refusal = LockError;
 
     ghost rules = { λ mutex.
-        gives_what (λ loan. loan.parked ≡ mutex.word.slot.name)
+        gives_what (λ parked. parked ≡ mutex.word.slot.name)
         (λ before after. LosesOnceAtMost before.contender after.contender) };
 
     ghost source = { λ mutex. mutex.source };
@@ -104,28 +104,28 @@ impl<T: Drop> Waitable<Taker> for Mutex<T> {
         request: &mut Taker,
         exchange: &X,
         on: &mut C,
-    ) -> Attempted<Loan<T>, LockError> {
+    ) -> Attempted<Parked, LockError> {
         let lender = Lender { lock: self };
         match lender.attempt_or_wait(rt, request, exchange, on) {
-            Attempted::Done(lent) => Attempted::Done(self.lend_out(rt, lent)),
+            Attempted::Done(lent) => Attempted::Done(self.word.park(rt, lent)),
             Attempted::Waits(key) => Attempted::Waits(key),
             Attempted::Absent => Attempted::Absent,
             Attempted::Refused(error) => Attempted::Refused(error),
         }
     }
 
-    fn leave<R: Wait>(&self, rt: &R, request: &mut Taker) -> Result<Option<Loan<T>>, LockError> {
+    fn leave<R: Wait>(&self, rt: &R, request: &mut Taker) -> Result<Option<Parked>, LockError> {
         let lender = Lender { lock: self };
         match lender.leave(rt, request) {
-            Ok(Some(lent)) => Ok(Some(self.lend_out(rt, lent))),
+            Ok(Some(lent)) => Ok(Some(self.word.park(rt, lent))),
             Ok(None) => Ok(None),
             Err(error) => Err(error),
         }
     }
 }
 
-impl<T: Drop> Obtainable<Taker> for Mutex<T> {
-    ghost trying = { λ mutex. tries_for (λ loan. loan.parked ≡ mutex.word.slot.name) };
+impl<T> Obtainable<Taker> for Mutex<T> {
+    ghost trying = { λ mutex. tries_for (λ parked. parked ≡ mutex.word.slot.name) };
 
     #[inline(always)]
     fn is_waiting(&self, request: &Taker) -> bool {
@@ -133,8 +133,9 @@ impl<T: Drop> Obtainable<Taker> for Mutex<T> {
     }
 
     #[inline(always)]
-    fn attempt<R: Wait>(&self, rt: &R, _request: &mut Taker) -> Option<Loan<T>> {
-        self.try_borrow(rt)
+    fn attempt<R: Wait>(&self, rt: &R, _request: &mut Taker) -> Option<Parked> {
+        let lent = self.word.try_value()?;
+        Some(self.word.park(rt, lent))
     }
 
     fn give_up<R: Wait>(&self, rt: &R, request: &mut Taker) {
@@ -143,6 +144,6 @@ impl<T: Drop> Obtainable<Taker> for Mutex<T> {
     }
 }
 
-impl<T: Drop> TakesAny<Taker> for Mutex<T> {
+impl<T> TakesAny<Taker> for Mutex<T> {
     ghost all_fit = { λ _ _. tt };
 }

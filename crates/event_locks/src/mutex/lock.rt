@@ -7,7 +7,6 @@ use crate::lending::{Lender, Lending};
 use crate::polled::guarded;
 use crate::taker::Taker;
 use event_wait::{LockError, Obtaining, Shared};
-use event_word::take_out;
 use futures::Future;
 use futures::task::{Context, Poll};
 use std::sync::Wait;
@@ -31,7 +30,7 @@ use std::time::{Clock, Duration, Instant};
 /// ```
 #[must_use = "nothing is asked for until it is waited on or polled"]
 #[derive(Drop)]
-pub struct Lock<'a, T: Drop, R: Wait + Clock> {
+pub struct Lock<'a, T, R: Wait + Clock> {
     obtaining: Obtaining<Lender<'a, Mutex<T>>, Taker, Lending<'a, Mutex<T>, R>>,
 }
 
@@ -45,7 +44,7 @@ pub struct LockArc<T: Drop, R: Wait + Clock + Drop> {
     obtaining: Obtaining<Mutex<T>, Taker, Shared<Mutex<T>, R>>,
 }
 
-impl<'a, T: Drop, R: Wait + Clock> Lock<'a, T, R> {
+impl<'a, T, R: Wait + Clock> Lock<'a, T, R> {
     #[inline(always)]
     pub(crate) fn new(
         obtaining: Obtaining<Lender<'a, Mutex<T>>, Taker, Lending<'a, Mutex<T>, R>>,
@@ -64,15 +63,8 @@ impl<'a, T: Drop, R: Wait + Clock> Lock<'a, T, R> {
     /// ```
     #[inline(always)]
     pub fn wait(self) -> Result<MutexGuard<'a, T, R>, LockError> {
-        let (hold, lent) = match self.obtaining.at_once() {
-            Ok(got) => got,
-            Err(rest) => rest.wait_longer()?,
-        };
-        let mut lent = lent;
-        match take_out(&mut lent) {
-            Some(value) => Ok(MutexGuard::with(hold, lent, value)),
-            None => Ok(MutexGuard::new(hold, lent)),
-        }
+        let (hold, lent) = self.obtaining.wait()?;
+        Ok(MutexGuard::new(hold, lent))
     }
 
     /// Blocks the thread until it has the value, at most for `timeout`. Returns `None` if that passed in vain.
@@ -122,15 +114,25 @@ impl<T: Drop, R: Wait + Clock + Drop> LockArc<T, R> {
 
     /// Blocks the thread until it has the value, like [`Lock::wait`]. Returns a guard that may go to another thread.
     pub fn wait(self) -> Result<MutexGuardArc<T, R>, LockError> {
-        let (hold, loan) = self.obtaining.wait()?;
-        Ok(MutexGuardArc::new(hold, loan))
+        match come_first(self.obtaining) {
+            Ok(guard) => Ok(guard),
+            Err(rest) => {
+                let (hold, parked) = rest.wait_longer()?;
+                Ok(MutexGuardArc::new(hold, parked))
+            }
+        }
     }
 
     /// Blocks the thread until it has the value, at most for `timeout`, like [`Lock::wait_timeout`]. Returns a guard that may
     /// go to another thread.
     pub fn wait_timeout(self, timeout: Duration) -> Result<Option<MutexGuardArc<T, R>>, LockError> {
-        let got = self.obtaining.wait_timeout(timeout)?;
-        Ok(got.map(|(hold, loan)| MutexGuardArc::new(hold, loan)))
+        match come_first(self.obtaining) {
+            Ok(guard) => Ok(Some(guard)),
+            Err(rest) => {
+                let got = rest.wait_timeout(timeout)?;
+                Ok(got.map(|(hold, parked)| MutexGuardArc::new(hold, parked)))
+            }
+        }
     }
 
     /// Blocks the thread until it has the value, at most until `deadline`, like [`Lock::wait_deadline`]. Returns a guard that
@@ -139,12 +141,17 @@ impl<T: Drop, R: Wait + Clock + Drop> LockArc<T, R> {
         self,
         deadline: Instant,
     ) -> Result<Option<MutexGuardArc<T, R>>, LockError> {
-        let got = self.obtaining.wait_deadline(deadline)?;
-        Ok(got.map(|(hold, loan)| MutexGuardArc::new(hold, loan)))
+        match come_first(self.obtaining) {
+            Ok(guard) => Ok(Some(guard)),
+            Err(rest) => {
+                let got = rest.wait_deadline(deadline)?;
+                Ok(got.map(|(hold, parked)| MutexGuardArc::new(hold, parked)))
+            }
+        }
     }
 }
 
-impl<'a, T: Drop, R: Wait + Clock> Future for Lock<'a, T, R> {
+impl<'a, T, R: Wait + Clock> Future for Lock<'a, T, R> {
     type Output = Result<MutexGuard<'a, T, R>, LockError>;
 
     ghost needs = { lock_awaits };
@@ -160,6 +167,41 @@ impl<T: Drop, R: Wait + Clock + Drop> Future for LockArc<T, R> {
     ghost needs = { lock_arc_awaits };
 
     fn poll(&mut self, cx: &mut Context<'_>) -> Poll<Result<MutexGuardArc<T, R>, LockError>> {
+        if let Some(guard) = come_at_poll(&mut self.obtaining) {
+            return Poll::Ready(Ok(guard));
+        }
         guarded(self.obtaining.poll(cx), MutexGuardArc::new)
+    }
+}
+
+// A wait that ends with a guard that shares the mutex.
+type SharedWait<T, R> = Obtaining<Mutex<T>, Taker, Shared<Mutex<T>, R>>;
+
+// Takes the value by one step, if the wait is in no queue and a newcomer may. Returns the wait, as an `Err`, else.
+#[inline(always)]
+fn come_first<T: Drop, R: Wait + Clock + Drop>(
+    wait: SharedWait<T, R>,
+) -> Result<MutexGuardArc<T, R>, SharedWait<T, R>> {
+    match wait.begin() {
+        Ok((hold, alloc)) => match MutexGuardArc::come(hold) {
+            Ok(guard) => Ok(guard),
+            Err(hold) => Err(Obtaining::new(hold, alloc, Taker::default())),
+        },
+        Err(rest) => Err(rest),
+    }
+}
+
+// Takes the value as `come_first` does, for a poll. Returns `None` else, and the wait stays as it was.
+#[inline(always)]
+fn come_at_poll<T: Drop, R: Wait + Clock + Drop>(
+    wait: &mut SharedWait<T, R>,
+) -> Option<MutexGuardArc<T, R>> {
+    let hold = wait.take_hold()?;
+    match MutexGuardArc::come(hold) {
+        Ok(guard) => Some(guard),
+        Err(hold) => {
+            wait.hold = Some(hold);
+            None
+        }
     }
 }

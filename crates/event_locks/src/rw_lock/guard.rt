@@ -288,6 +288,11 @@ impl<'a, T, R: Wait + Clock> RwLockReadGuard<'a, T, R> {
         RwLockReadGuard { grant, hold }
     }
 
+    /// Returns the lock to which this guard belongs.
+    pub fn source(&self) -> &'a RwLock<T> {
+        self.hold.lender.lock
+    }
+
     /// Makes a writer of this reader, if nobody else reads and no writer waits. Returns the reader again, as an `Err`, else.
     ///
     /// The value is not given back in between. The call takes no memory. Where others wait it may block until the queues, which

@@ -83,6 +83,11 @@ impl<'a, R: Wait + Clock> SemaphoreGuard<'a, R> {
         self.permit.count() as usize
     }
 
+    /// Returns the semaphore to which this guard belongs.
+    pub fn source(&self) -> &'a Semaphore {
+        self.hold.lock
+    }
+
     /// Ends the guard without giving its permits back: the semaphore has so many permits less from here on.
     pub fn forget(self) {
         let SemaphoreGuard { hold: _, permit } = self;
@@ -103,6 +108,11 @@ impl<R: Wait + Clock + Drop> SemaphoreGuardArc<R> {
         ensures { result ≡ self.now }
     {
         self.permit.count() as usize
+    }
+
+    /// Returns the semaphore to which this guard belongs.
+    pub fn source(&self) -> &Arc<Semaphore, Global> {
+        &self.hold.lock
     }
 
     /// Ends the guard without giving its permits back: the semaphore has so many permits less from here on.

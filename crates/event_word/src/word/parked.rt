@@ -1,13 +1,14 @@
-//! A value that is out with a thread that has no right to the value's place.
+//! A right to the value of a mutex that the number counts and the slot does not see.
 ghost use Rattle.std.specs.Prelude.{◌≡◌};
 
 use super::Seat;
 use super::origin::Origin;
 use std::marker::Model;
 
-/// A proof that a value was moved out, and is to be put back.
+/// A proof that the right to the value of a mutex is parked, and is to be taken again: the number says that the value is taken, and
+/// no thread has the right.
 ///
-/// The type has no lifetime and no bytes, and is not `Drop`; only parking a value makes one. A contract sees of which word it is.
+/// The type has no lifetime and no bytes, and is not `Drop`; only parking a right makes one. A contract sees of which word it is.
 pub struct Parked {
     origin: Origin,
 }

@@ -11,31 +11,13 @@ use super::serving::may_take;
 use super::{CROWDED, ONE, Parked, Seat, Word};
 use crate::competing::{CLOSED, Competing, OneValue, SHUT};
 use event_slot::Writing;
-use std::sync::{Mutex, Wait};
+use std::sync::Wait;
 
 /// The right to the value of a lock, and to where the value lies.
 pub type Lent<'a, S, V> = Writing<'a, Place<V>, S>;
 
-/// The place where the value of a mutex lies while no thread has it.
-///
-/// A `&` to the place lends nothing, so threads may share a mutex whose value they may not share: the standard mutex in the place
-/// is never locked.
-#[derive(Drop)]
-pub struct Lodging<V> {
-    value: Mutex<Option<V>>,
-}
-
-impl<V> Lodging<V> {
-    /// Makes a place in which this value lies.
-    pub fn new(value: V) -> Self {
-        Lodging {
-            value: Mutex::new(Some(value)),
-        }
-    }
-}
-
 /// The number while the value is parked.
-const PARKED: u64 = CLOSED;
+pub(super) const PARKED: u64 = CLOSED;
 
 impl<S: Kept, V> Word<S, V> {
     // Changes the number where no waiter has to be notified, and takes the right to the value, if the word is as it was seen.
@@ -162,12 +144,12 @@ impl<'a, S: Kept, V> Held<'a, S, V> {
     }
 }
 
-impl<V> Word<Competing<OneValue>, Lodging<V>> {
+impl<K, V> Word<Competing<OneValue<K>>, V> {
     /// Takes the right to the value, if no thread has it and newcomers may take it, and returns the right or `None`.
     ///
     /// The call costs one compare-exchange where no other thread changes the word meanwhile, and does not wait.
     #[inline(always)]
-    pub fn try_value(&self) -> Option<Lent<'_, Competing<OneValue>, Lodging<V>>>
+    pub fn try_value(&self) -> Option<Lent<'_, Competing<OneValue<K>>, V>>
         ensures { IfSome result (λ lent. lent.name ≡ self.now.slot.name) }
     {
         match self.lend_at(ONE, 0) {
@@ -179,7 +161,7 @@ impl<V> Word<Competing<OneValue>, Lodging<V>> {
 
     #[cold]
     #[inline(never)]
-    fn try_value_again(&self) -> Option<Lent<'_, Competing<OneValue>, Lodging<V>>>
+    fn try_value_again(&self) -> Option<Lent<'_, Competing<OneValue<K>>, V>>
         ensures { IfSome result (λ lent. lent.name ≡ self.now.slot.name) }
     {
         let (mut seen, mut seat) = self.look();
@@ -200,11 +182,7 @@ impl<V> Word<Competing<OneValue>, Lodging<V>> {
     /// The call costs one compare-exchange where no thread waits. The call does not wait for the state: a thread that has the
     /// state out notifies.
     #[inline(always)]
-    pub fn give_value<'a, R: Wait>(
-        &'a self,
-        rt: &R,
-        lent: Lent<'a, Competing<OneValue>, Lodging<V>>,
-    )
+    pub fn give_value<'a, R: Wait>(&'a self, rt: &R, lent: Lent<'a, Competing<OneValue<K>>, V>)
         requires { lent.name ≡ self.now.slot.name }
     {
         if let Err((again, found, seat)) = self.give_back_at(lent, 0, ONE) {
@@ -218,7 +196,7 @@ impl<V> Word<Competing<OneValue>, Lodging<V>> {
     fn give_value_slowly<'a, R: Wait>(
         &'a self,
         rt: &R,
-        lent: Lent<'a, Competing<OneValue>, Lodging<V>>,
+        lent: Lent<'a, Competing<OneValue<K>>, V>,
         found: u64,
         seat: Seat,
     )
@@ -255,7 +233,7 @@ impl<V> Word<Competing<OneValue>, Lodging<V>> {
     }
 }
 
-impl<'a, V> Held<'a, Competing<OneValue>, Lodging<V>> {
+impl<'a, K, V> Held<'a, Competing<OneValue<K>>, V> {
     /// Takes the right to the value with the state at hand, and returns the right, or `None` if a thread has it.
     ///
     /// A contender that was notified (`notified`) takes the right also where newcomers may not; another contender gets `None`
@@ -264,7 +242,7 @@ impl<'a, V> Held<'a, Competing<OneValue>, Lodging<V>> {
         &mut self,
         rt: &R,
         notified: bool,
-    ) -> Option<Lent<'a, Competing<OneValue>, Lodging<V>>>
+    ) -> Option<Lent<'a, Competing<OneValue<K>>, V>>
         requires serves { HasState (λ n q. ServesWith (count notified) n q.line) self.old }
         ensures of { self.new.word ≡ self.old.word }
         ensures value { IfSome result (λ lent. lent.name ≡ self.old.word.now.slot.name) }
@@ -284,11 +262,12 @@ impl<'a, V> Held<'a, Competing<OneValue>, Lodging<V>> {
     }
 }
 
-impl<V> Word<Competing<OneValue>, Lodging<V>> {
-    /// Gives up the right to where the value lies, and keeps the value, which was moved out of its place.
+impl<K, V> Word<Competing<OneValue<K>>, V> {
+    /// Parks: gives up the right to where the value lies, and returns the parked right. The number still says that the value is
+    /// taken.
     ///
-    /// The returned [`Parked`] is for [`unpark`](Word::unpark).
-    pub fn park<R: Wait>(&self, rt: &R, lent: Lent<'_, Competing<OneValue>, Lodging<V>>) -> Parked
+    /// The returned [`Parked`] is for [`unpark`](Word::unpark), or for [`Parked::unpark`] of a holder that shares the mutex.
+    pub fn park<R: Wait>(&self, rt: &R, lent: Lent<'_, Competing<OneValue<K>>, V>) -> Parked
         requires { lent.name ≡ self.now.slot.name }
         ensures { result ≡ self.now.slot.name }
     {
@@ -306,15 +285,11 @@ impl<V> Word<Competing<OneValue>, Lodging<V>> {
         unreachable!()
     }
 
-    /// Takes the right to where the value lies again, to put the value back, and returns the right.
+    /// Takes the right to where the value lies again, and returns the right.
     ///
     /// The call blocks for no other thread, because the number says that the value is parked, and no other thread takes the right
     /// meanwhile.
-    pub fn unpark<R: Wait>(
-        &self,
-        rt: &R,
-        parked: Parked,
-    ) -> Lent<'_, Competing<OneValue>, Lodging<V>>
+    pub fn unpark<R: Wait>(&self, rt: &R, parked: Parked) -> Lent<'_, Competing<OneValue<K>>, V>
         requires { parked ≡ self.now.slot.name }
         ensures { result.name ≡ self.now.slot.name }
     {
@@ -330,39 +305,4 @@ impl<V> Word<Competing<OneValue>, Lodging<V>> {
         }
         unreachable!()
     }
-
-    /// Borrows the value mutably where it lies, or returns `None` if a guard that was forgotten has the value.
-    pub fn get_mut(&mut self) -> Option<&mut V> {
-        self.value_mut().value.get_mut().as_mut()
-    }
-
-    /// Returns the value, or `None` if a guard that was forgotten has the value.
-    pub fn into_value(self) -> Option<V> {
-        self.into_inner().value.into_inner()
-    }
-}
-
-/// Moves the value out of its place, and returns it.
-///
-/// A thread that had the value put it back before it gave up the right, so the value is there; but a slot says nothing of the
-/// value that a writer finds, so `None` is not proved to be impossible.
-#[inline(always)]
-pub fn take_out<S: Kept, V>(lent: &mut Lent<'_, S, Lodging<V>>) -> Option<V>
-    ensures { lent.new.name ≡ lent.old.name }
-{
-    let place = lent.get_mut().value.value.get_mut();
-    // What `take` writes is overwritten when the value is put back. The compiler uses that only where it sees that a value lay
-    // there.
-    if place.is_none() {
-        return None;
-    }
-    place.take()
-}
-
-/// Moves a value into the place.
-#[inline(always)]
-pub fn put_in<S: Kept, V: Drop>(lent: &mut Lent<'_, S, Lodging<V>>, value: V)
-    ensures { lent.new.name ≡ lent.old.name }
-{
-    *lent.get_mut().value.value.get_mut() = Some(value);
 }
