@@ -20,6 +20,44 @@ pub fn lock_mutex<R: Runtime>(run: &mut Run<'_, R>) -> Result<()> {
     run.together(n, n, &work)
 }
 
+// A count with more beside it.
+#[derive(Drop)]
+struct Padded<P> {
+    count: u64,
+    padding: P,
+}
+
+/// Threads take a mutex whose value is larger than a count by this padding.
+pub fn lock_padded<R: Runtime, P: Drop + Send>(run: &mut Run<'_, R>, padding: P) -> Result<()> {
+    let (rt, alloc, n) = (run.rt, run.rt.alloc(), run.n);
+    let mutex = &Mutex::new(alloc, Padded { count: 0, padding });
+    let work = repeat!(as _index => {
+        let Ok(mut padded) = mutex.lock(rt, alloc).wait() else {
+            return false;
+        };
+        padded.count = padded.count.wrapping_add(1);
+        true
+    });
+    run.together(n, n, &work)
+}
+
+/// One thread takes a free mutex by guards that share it.
+pub fn lock_arc<R: Runtime + Drop>(run: &mut Run<'_, R>) -> Result<()> {
+    let (rt, rounds) = (run.rt, run.rounds);
+    let mutex = &Arc::new(rt.alloc(), Mutex::new(rt.alloc(), 0u64))?;
+    let work = repeat!({
+        let Ok(rt) = rt.clone() else {
+            return false;
+        };
+        let Ok(Some(mut count)) = Mutex::try_lock_arc(mutex, rt) else {
+            return false;
+        };
+        *count = count.wrapping_add(1);
+        true
+    });
+    run.alone(rounds, 1, work)
+}
+
 /// One thread takes a free mutex that it tries.
 pub fn try_mutex<R: Runtime>(run: &mut Run<'_, R>) -> Result<()> {
     let (rt, rounds) = (run.rt, run.rounds);

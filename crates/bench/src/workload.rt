@@ -8,8 +8,8 @@ pub const NAMES: &str = "listen_drop burst burst_listen burst_poll_pending burst
     burst_poll_ready burst_drop_finished churn remove_fifo remove_middle notify_none notify_told \
     is_notified total_listeners listen_drop_stack burst_stack churn_stack remove_fifo_stack \
     listen_drop_recorded burst_recorded churn_recorded listen_drop_list burst_list churn_list \
-    remove_fifo_list remove_middle_list base_waker ping_pong handover mutex_lock mutex_try semaphore \
-    semaphore_3 read write read_arc write_arc barrier channel_1 channel_128 channel_unbounded \
+    remove_fifo_list remove_middle_list base_waker ping_pong handover mutex_lock mutex_1k mutex_64k \
+    mutex_arc mutex_try semaphore semaphore_3 read write read_arc write_arc barrier channel_1 channel_128 channel_unbounded \
     channel_alone channel_tasks longest_wait smallest_share seldom";
 
 /// How many rounds a run of a workload has that is asked for no number: as many as take some hundredths of a second. Where
@@ -50,6 +50,9 @@ fn run_timed<R: Runtime + Drop>(run: &mut Run<'_, R>) -> Result<()> {
         "ping_pong" => threads::ping_pong(run),
         "handover" => threads::hand_over(run),
         "mutex_lock" => threads::lock_mutex(run),
+        "mutex_1k" => threads::lock_padded(run, [0u64; 127]),
+        "mutex_64k" => threads::lock_padded(run, [0u64; 8_191]),
+        "mutex_arc" => threads::lock_arc(run),
         "mutex_try" => threads::try_mutex(run),
         "semaphore" => threads::acquire(run, 1),
         "semaphore_3" => threads::acquire(run, 3),
