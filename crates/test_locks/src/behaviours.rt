@@ -3,10 +3,9 @@ use crate::support::{check, new_lock, new_mutex, new_semaphore, new_task};
 use event_locks::{AcquireError, LockError, Mutex, RwLock, Semaphore, TryAcquireError};
 use futures::task::Poll;
 use std::fmt::Debug;
-use std::mem;
-use std::ptr;
 use std::sync::Arc;
 use std::time::Duration;
+use std::{mem, ptr};
 use test_kinds::{Waits, numbers};
 use test_support::Runtime;
 

@@ -3,7 +3,7 @@ ghost use Rattle.std.specs.Prelude.{◌≡◌, [], IfErr};
 ghost use mir.Syntax.{named};
 ghost use Rattle.std.specs.Arc.{arc_value};
 
-use super::{MutexSlot, Line, Mutex, Right};
+use super::{Line, Mutex, MutexSlot, Right};
 use crate::lending::Lending;
 use event_slot::Ties;
 use event_wait::Shared;

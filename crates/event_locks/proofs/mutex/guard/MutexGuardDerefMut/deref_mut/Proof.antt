@@ -138,7 +138,7 @@ deref_mut_spec {M} 𝓤 𝓛 𝓜 𝓡 wired X Y LX LY gw dw gc dc mw mc =
     nothing ! $ move ! (8 ∷ 0 ∷ []) $ join ! $ nothing ! $ move ! (4 ∷ 0 ∷ []) $ join ! $ move ! (5 ∷ 0 ∷ []) $ join ! $ move ! (5 ∷ 0 ∷ []) $ join ! $ move ! (4 ∷ 0 ∷ []) $ join ! $ move ! (3 ∷ 0 ∷ []) $ join ! $ join ! $ use2 𝓛 (raw (k.pre z)) (id⊢ 𝓤 _) $
     let counted = counting-thm.bound 𝓡.env (code.calls-event_word::competing::OneValueCounted::ARE_MANY 𝓡.env wired) (code.calls-event_word::competing::OneValueCounted::CLOSES 𝓡.env wired) M' LM' M 𝓤 𝓛 𝓜 𝓡 in
     let kept = keeping-thm.bound 𝓡.env (code.calls-event_word::competing::CompetingKept::number 𝓡.env wired) (code.calls-event_word::competing::CompetingKept::shut 𝓡.env wired) (code.calls-event_word::competing::CompetingKept::settle 𝓡.env wired) (code.calls-event_word::competing::CompetingKept::swap_room 𝓡.env wired) O' LO' (counting.ghosts M') (counting.dict M') M 𝓤 𝓛 𝓜 𝓡
-        (record { ARE_MANY = counted.ARE_MANY; CLOSES = counted.CLOSES }) in
+    (record { ARE_MANY = counted.ARE_MANY; CLOSES = counted.CLOSES }) in
     calls_at ! (framed 𝓤 H 𝓜 𝓣) k (called-thm.met 𝓤 𝓛 𝓜 𝓡 (code.calls-event_word::word::writer::Writer::get_mut 𝓡.env wired) X S' B' LX LS' LB' g' d' h' e' (record { promises = kept.promises; number = kept.number; shut = kept.shut; settle = kept.settle; swap_room = kept.swap_room }) (record {})) z (and_then ! (get ! refl) (no_more !)) (λ u.
     use1 𝓛 (later (some (λ (j : MutBor X.Denot). ((‵ (flft κ ql) ⊛ ‵ (flft α αl) ⊛ ‵ (flft τ τq) ⊛ ‵ (flft α αr) ⊛ ‵ (flft κ qr) ⊛ ‵ ftrue) ⊛ ‵ ((MutRef (named 0) κ P).own_val j (u ∷ []))) ⊛ some (λ (_ : Unit {0} × Unit {0}). ‵ (fsep ftrue ftrue) ⊛ ‵ (follows hd P δ j.ghost_name (writer_with h.0)) ⊛ raw (shown 𝓤 (j.now ≡ h.0.value)))))) (id⊢ 𝓤 (k.post z u)) $
     await ! tt $ pick ! (λ j. split ! $ split ! $ move ! (2 ∷ []) $ pick ! (λ _. split3 ! $ drop ! $ move ! (1 ∷ []) $ heard ! (j.now ≡ h.0.value) (λ same.
