@@ -30,18 +30,6 @@ fn a_mutex_that_is_over_gives_its_value(rt: HostRuntime) {
 }
 
 #[test]
-fn a_guard_says_which_lock_it_is_of(rt: HostRuntime) {
-    let (mutex, lock) = (new_mutex(&rt, 7u64), new_lock(&rt, 7u64));
-    let value = mutex.try_lock(&rt).expect(&rt, "the value");
-    check(&rt, "the mutex", value.source().is_locked(), true);
-    let reader = lock.try_read(&rt).expect(&rt, "the value");
-    check(&rt, "the lock", reader.source().is_locked(), true);
-    let semaphore = new_semaphore(&rt, 2);
-    let permit = semaphore.try_acquire(&rt).expect(&rt, "a permit");
-    check(&rt, "the semaphore", permit.source().available(), 1);
-}
-
-#[test]
 fn a_forgotten_guard_leaves_the_value_in_the_mutex(rt: HostRuntime) {
     let mut mutex = new_mutex(&rt, 1u64);
     let mut guard = mutex.try_lock(&rt).expect(&rt, "the value");
