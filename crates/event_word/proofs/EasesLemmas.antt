@@ -45,8 +45,8 @@ module _ {A : Type 0} where
   told-again n x l [] h = h
   told-again n x l (k ∷ ks) h = or_both (is_among (keys_of l) k) (list_any (is_among (keys_of l)) ks) (is_among (keys_of (again n x l)) k) (list_any (is_among (keys_of (again n x l))) ks) (among-again n x l k) (told-again n x l ks) h
 
-module _ {C : Type 0} (fits : ℕ → Type 0) (taken : ℕ → Bool) (closes : Bool) where
-  eases_at : (more b r : ℕ) (q : Competing C) (told : List (Key × Notice (Unit {0}))) → told ≡ q.line.queue.told → Eases (rules_of {C = C} fits taken closes) b r → ServesWith more b q.line → ServesWith more r q.line
+module _ {C : Type 0} (fits : ℕ → Type 0) (taken : ℕ → Bool) (closes many : Bool) where
+  eases_at : (more b r : ℕ) (q : Competing C) (told : List (Key × Notice (Unit {0}))) → told ≡ q.line.queue.told → Eases (rules_of {C = C} fits taken closes many) b r → ServesWith more b q.line → ServesWith more r q.line
   eases_at more b r q [] is eases serves = λ some. absurd (nobody (keys_of q.line.starving) (subst (λ (l : List (Key × Notice (Unit {0}))). list_any (is_among (keys_of l)) (keys_of q.line.starving) ≡ true) (sym is) some))
   eases_at more b r q (x ∷ xs) is eases serves = λ some.
       let padded : Competing C = record q { line = record q.line { queue = record q.line.queue { told = again more x q.line.queue.told } } } in
@@ -56,13 +56,13 @@ module _ {C : Type 0} (fits : ℕ → Type 0) (taken : ℕ → Bool) (closes : B
       (left.0, omega (arith, size, left.1))
 
   -- what was left for one more is so still
-  pub eases-serves : (more b r : ℕ) (q : Competing C) → Eases (rules_of {C = C} fits taken closes) b r → ServesWith more b q.line → ServesWith more r q.line
+  pub eases-serves : (more b r : ℕ) (q : Competing C) → Eases (rules_of {C = C} fits taken closes many) b r → ServesWith more b q.line → ServesWith more r q.line
   eases-serves more b r q eases serves = eases_at more b r q q.line.queue.told refl eases serves
 
   -- whoever has the state out looks at the number again
-  pub serves-on : {V : Type 0} (more r : ℕ) (m n : Held (Competing C) V) → HasState (λ b q. ServesWith more b q.line) m → n.claim.state ≡ m.claim.state → n.seat.view.number ≡ Some r → EasesFrom (rules_of {C = C} fits taken closes) m.seat.view.number r → HasState (λ b q. (b ≡ r) × ServesWith more b q.line) n
+  pub serves-on : {V : Type 0} (more r : ℕ) (m n : Held (Competing C) V) → HasState (λ b q. ServesWith more b q.line) m → n.claim.state ≡ m.claim.state → n.seat.view.number ≡ Some r → EasesFrom (rules_of {C = C} fits taken closes many) m.seat.view.number r → HasState (λ b q. (b ≡ r) × ServesWith more b q.line) n
   serves-on more r m n t same is eases =
-      let from : Eases (rules_of {C = C} fits taken closes) t.0 r = subst (λ x. EasesFrom (rules_of {C = C} fits taken closes) x r) t.2 eases in
+      let from : Eases (rules_of {C = C} fits taken closes many) t.0 r = subst (λ x. EasesFrom (rules_of {C = C} fits taken closes many) x r) t.2 eases in
       (r, t.1, is, same ∙ t.3, (refl, eases-serves more t.0 r t.1 from t.4))
 
 -- one that was notified takes one, or a newcomer where the word is open

@@ -11,7 +11,7 @@ use Rattle.event_queue.proofs.OrderLemmas.{length-remove_entry}
 use Rattle.event_queue.specs.Queue.{Queue}
 use Rattle.event_wait.specs.Line.{HasLeft, TellsUpTo, told_anew}
 use Rattle.event_wait.specs.FairQueue.{State, Comes, Forbears, ForbearsBy, IsStruck, Joins, WaitsOn, is_among}
-use Rattle.event_word.specs.Free.{free_of, Closes, IsClosed, IsOpen, IsShut, one_starving_is_told, ServesWith, ServesTheStarving, NobodyIsThere, NobodyWaits, ShutsForTheStarving, StandsIf}
+use Rattle.event_word.specs.Free.{free_of, Closes, IsClosed, IsOpen, IsShut, one_starving_is_told, ServesWith, ServesTheStarving, NobodyIsOwed, NobodyIsThere, ShutsForTheStarving, StandsIf}
 use Rattle.event_wait.specs.Starving.{Starving, but, struck_off}
 use Rattle.event_wait.proofs.StarvingLemmas.{joined_keys, keys-but, keys-counted_in, keys-less_forborne}
 use Rattle.event_wait.specs.declared.fair_queue.Queued.{Queued}
@@ -146,10 +146,13 @@ module _ {W : Type 0} where
   pub serves-given : (more n old new : ℕ) (s : State W) → new ≡ old + n → free_of old + n < 2 ^ 60 → ServesWith more old s → ServesWith more new s
   serves-given more n old new s is room h told = (omega (arith, (h told).0, is), omega (arith, (h told).1, is, room))
 
-  -- some are given back, where nobody waits
-  pub stands-given : (closes : Bool) (n old new : ℕ) (s : State W) → new ≡ old + n → free_of old + n < 2 ^ 60 → StandsIf closes old s → NobodyWaits s → StandsIf closes new s
-  stands-given closes n old new s is room h nobody = record {
-    nobody = λ _. nobody;
+  -- some are given back, where nobody has to be notified
+  pub stands-given : (closes many : Bool) (n old new : ℕ) (s : State W) → new ≡ old + n → free_of old + n < 2 ^ 60 → (many ≡ false → free_of old + n ≤ 1) → StandsIf closes old s → NobodyIsOwed many s → StandsIf closes new s
+  stands-given closes many n old new s is room one h owed = record {
+    nobody = λ less. ⊎_elim
+        (λ (none : length s.queue.waiting ≡ 0). none)
+        (λ (some : (many ≡ false) × (0 < length s.queue.told)). absurd (omega (arith, less, is, room, one some.0, some.1)))
+        owed;
     shuts = record {
       only_then = λ shut. h.shuts.only_then (omega (arith, shut, is, room));
       shut = λ some. omega (arith, h.shuts.shut some, is);

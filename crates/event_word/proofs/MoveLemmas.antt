@@ -11,9 +11,9 @@ use Rattle.event_wait.specs.FairQueue.{State}
 use Rattle.event_word.specs.Word.{Changes, Passes, Takes, counts_of, number_of}
 use Rattle.event_word.proofs.FreeLemmas.{serves-beside, serves-fewer, serves-given, stands-beside, stands-fewer, stands-given}
 
-module _ {C : Type 0} (fits : ℕ → Type 0) (taken : ℕ → Bool) (closes : Bool) where
+module _ {C : Type 0} (fits : ℕ → Type 0) (taken : ℕ → Bool) (closes many : Bool) where
   -- newcomers take some, where the word is open
-  pub changes-fewer : (n old new : ℕ) → new + 4 * n ≡ old → old < 2 ^ 62 → fits (unshut_of (number_of new)) → Changes (rules_of {C = C} fits taken closes) old new
+  pub changes-fewer : (n old new : ℕ) → new + 4 * n ≡ old → old < 2 ^ 62 → fits (unshut_of (number_of new)) → Changes (rules_of {C = C} fits taken closes many) old new
   changes-fewer n old new is may fit = record {
     code = omega (arith, is);
     fits = fit;
@@ -23,18 +23,24 @@ module _ {C : Type 0} (fits : ℕ → Type 0) (taken : ℕ → Bool) (closes : B
   }
 
   -- one is taken, by a newcomer or for one that was notified
-  pub changes-taken : (old new : ℕ) → new + 4 ≡ old → old < 2 ^ 62 → fits (unshut_of (number_of new)) → Changes (rules_of {C = C} fits taken closes) old new
+  pub changes-taken : (old new : ℕ) → new + 4 ≡ old → old < 2 ^ 62 → fits (unshut_of (number_of new)) → Changes (rules_of {C = C} fits taken closes many) old new
   changes-taken old new is may fit = changes-fewer 1 old new (omega (arith, is)) may fit
 
-  -- some are given back, where nobody waits or the state is out
-  pub changes-given : (n old new : ℕ) → new ≡ old + 4 * n → free_of (number_of old) + n < 2 ^ 60 → (old % 4 ≡ 2 → ⊥) → fits (unshut_of (number_of new)) → Changes (rules_of {C = C} fits taken closes) old new
-  changes-given n old new is room home fit = record {
+  -- some are given back, where nobody has to be notified or the state is out
+  changes-given_if : (n old new : ℕ) → new ≡ old + 4 * n → free_of (number_of old) + n < 2 ^ 60 → (many ≡ false → free_of (number_of old) + n ≤ 1) → (old % 4 ≡ 2 → ⊥) → fits (unshut_of (number_of new))
+      → Changes (rules_of {C = C} fits taken closes many) old new
+  changes-given_if n old new is room one home fit = record {
     code = omega (arith, is);
     fits = fit;
-    quiet = λ _ s h nobody. stands-given closes n (old / 4) (new / 4) s.line (omega (arith, is)) room h nobody;
+    quiet = λ _ s h owed. stands-given closes many n (old / 4) (new / 4) s.line (omega (arith, is)) room one h owed;
     crowded = λ is_home. absurd (home is_home);
     out = λ _ s h. serves-given 0 n (old / 4) (new / 4) s.line (omega (arith, is)) room h;
   }
+
+-- some permits are given back, where nobody has to be notified or the state is out
+pub changes-given : {C : Type 0} (fits : ℕ → Type 0) (taken : ℕ → Bool) (closes : Bool) (n old new : ℕ) → new ≡ old + 4 * n → free_of (number_of old) + n < 2 ^ 60 → (old % 4 ≡ 2 → ⊥) → fits (unshut_of (number_of new))
+    → Changes (rules_of {C = C} fits taken closes true) old new
+changes-given fits taken closes n old new is room home fit = changes-given_if fits taken closes true n old new is room (λ (no : true ≡ false). cc) home fit
 
 -- some are given back and the state is taken out, in one step
 pub promised-given : {W : Type 0} {closes : Bool} (n old new : ℕ) (s : State W) → old % 4 ≡ 2 → new + 1 ≡ old + 4 * n → free_of (number_of old) + n < 2 ^ 60 → StandsIf closes (number_of old) s → ServesTheStarving (number_of new) s
@@ -53,7 +59,7 @@ counts_one n = if taken_one n then 3 else 0
 
 module _ {C : Type 0} where
   abbrev one : Rules (Competing C)
-  one = rules_of FitsOne taken_one false
+  one = rules_of FitsOne taken_one false false
 
   -- one comes where nobody has the value
   comes : (old new : ℕ) → counts_of one old ≡ 0 → counts_of one new ≡ 3 → Passes one 0 2 old new
@@ -69,7 +75,7 @@ module _ {C : Type 0} where
   -- it is taken by a newcomer
   pub lends-newcomer : (old new : ℕ) → new + 4 ≡ old → old < 2 ^ 62 → FitsOne (unshut_of (number_of old)) → Changes one old new × Passes one 0 2 old new
   lends-newcomer old new is may fit = (
-    changes-taken FitsOne taken_one false old new is may (omega (arith, is, may, fit.0), omega (arith, is, may)),
+    changes-taken FitsOne taken_one false false old new is may (omega (arith, is, may, fit.0), omega (arith, is, may)),
     comes old new (ap counts_one (let was : unshut_of (number_of old) ≡ 1 = omega (arith, is, may, fit.0) in was)) (ap counts_one (let now : unshut_of (number_of new) ≡ 0 = omega (arith, is, may, fit.0) in now)),
   )
 
@@ -80,11 +86,11 @@ module _ {C : Type 0} where
       let now : unshut_of (number_of new) ≡ 0 = omega (arith, is, was) in
       (record { out = out; fits = (omega (arith, now), omega (arith, now)) }, comes old new (ap counts_one was) (ap counts_one now))
 
-  -- it is given back, where nobody waits or the state is out
+  -- it is given back, where nobody has to be notified or the state is out
   pub gives-value : (old new : ℕ) → new ≡ old + 4 → unshut_of (number_of old) ≡ 0 → (old % 4 ≡ 2 → ⊥) → Changes one old new × Passes one 2 0 old new
   gives-value old new is none home =
       let now : unshut_of (number_of new) ≡ 1 = omega (arith, is, none) in
-      (changes-given FitsOne taken_one false 1 old new is (omega (arith, none)) home (omega (arith, now), omega (arith, now)), goes old new (ap counts_one now))
+      (changes-given_if FitsOne taken_one false false 1 old new is (omega (arith, none)) (λ _. omega (arith, none)) home (omega (arith, now), omega (arith, now)), goes old new (ap counts_one now))
 
   -- it is given back, and the state is taken out
   pub swaps-value : (old new : ℕ) → new + 1 ≡ old + 4 → old % 4 ≡ 2 → unshut_of (number_of old) ≡ 0 → Takes one old new × Passes one 2 0 old new

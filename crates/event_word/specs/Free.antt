@@ -47,8 +47,9 @@ module _ {W : Type 0} where
   abbrev pub NobodyWaitsInVain : ℕ → State W → Type 0
   NobodyWaitsInVain n s = length s.queue.told < free_of n → length s.queue.waiting ≡ 0
 
-  abbrev pub NobodyWaits : State W → Type 0
-  NobodyWaits s = length s.queue.waiting ≡ 0
+  -- nobody has to be notified of what becomes free: nobody waits; or at most one is free at a time, and one is notified already
+  abbrev pub NobodyIsOwed : Bool → State W → Type 0
+  NobodyIsOwed many s = (length s.queue.waiting ≡ 0) ⊎ ((many ≡ false) × (0 < length s.queue.told))
 
   -- nobody is in the queue, notified or not
   abbrev pub NobodyIsThere : State W → Type 0

@@ -6,7 +6,7 @@ pub record Rules (S : Type 0) : Type 1 where
   pub fits : ℕ → Type 0
   -- what holds of number and state between any two steps while the state is at home: nobody waits in vain
   pub stands : ℕ → S → Type 0
-  -- nobody waits
+  -- nobody has to be notified of what others give back
   pub quiet : S → Type 0
   -- what whoever has the state out knows of it and of the number
   pub promised : ℕ → S → Type 0

@@ -1,4 +1,4 @@
--- A lock on one word. The word is four times the lock's number, and a code: 0 while the state is at home and nobody waits, 2 while it is at home and somebody may wait, 1 while a thread has it out, and 3 while one has it out and others may sleep until it is back.
+-- A lock on one word. The word is four times the lock's number, and a code: 0 while the state is at home and nobody has to be notified of what is given back, 2 while it is at home and somebody may have to be, 1 while a thread has it out, and 3 while one has it out and others may sleep until it is back.
 use Rattle.std.specs.Prelude.{◌≡◌, ◌≢◌, ℕ, ◌/◌, ◌%◌, eqb, Bool, true, false, Option, Some, None, List}
 use mathlib.Core.Option.{some}
 use lib.ListN.{get_elem?}

@@ -3,7 +3,7 @@ ghost use Rattle.std.specs.Prelude.{◌≡◌, ◌==◌, ◌^◌, ℕ, ◌<◌, 
 ghost use Rattle.std.specs.List.{FoldsTo};
 ghost use Rattle.event_wait.specs.Attempted.{Stores};
 ghost use Rattle.event_word.specs.Contender.{Comes, Loses, NobodyIsBy, coming_of, count_of, losses_after};
-ghost use Rattle.event_word.specs.Free.{Closes, IsClosed, IsOpen, NobodyIsThere, NobodyWaits, ServesTheStarving, ServesWith, Stands, StandsIf, all_tasks, free_of, one_starving_is_told};
+ghost use Rattle.event_word.specs.Free.{Closes, IsClosed, IsOpen, NobodyIsOwed, NobodyIsThere, ServesTheStarving, ServesWith, Stands, StandsIf, all_tasks, free_of, one_starving_is_told};
 ghost use Rattle.event_word.specs.Competing.{rules_of};
 ghost use Rattle.event_wait.specs.FairQueue.{Forbears, State};
 
@@ -46,8 +46,10 @@ pub trait Counted {
     // Whether a thread has the right to the value, by the same number.
     ghost taken: { ℕ → Bool };
 
-    /// Whether more than one waiter may be notified at a time.
+    /// Whether more than one may be free at a time, so that more than one waiter may have to be notified.
     const ARE_MANY: bool;
+
+    ghost ARE_MANY: { Bool };
 
     /// Whether the lock may be closed.
     const CLOSES: bool;
@@ -73,6 +75,8 @@ impl Counted for Permits {
 
     const ARE_MANY: bool = true;
 
+    ghost ARE_MANY = { true };
+
     const CLOSES: bool = true;
 
     ghost CLOSES = { true };
@@ -93,6 +97,8 @@ impl<K> Counted for OneValue<K> {
 
     const ARE_MANY: bool = false;
 
+    ghost ARE_MANY = { false };
+
     const CLOSES: bool = false;
 
     ghost CLOSES = { false };
@@ -112,7 +118,7 @@ impl<C> Competing<C> {
     pub fn new(alloc: Global) -> Self
         ensures stands { (closes : Bool) (number : ℕ) → IsOpen number
             → StandsIf closes number result.line }
-        ensures quiet { NobodyWaits result.line }
+        ensures quiet { (many : Bool) → NobodyIsOwed many result.line }
     {
         Competing {
             line: FairQueue::new(alloc),
@@ -244,10 +250,19 @@ impl<C: Counted> Competing<C> {
         let waiting = self.line.waiting();
         self.room.make(self.alloc, waiting.saturating_add(1))
     }
+
+    // Returns whether a waiter has to be notified of the next that becomes free. Where at most one is free at a time, one
+    // notified waiter is enough for it: until that waiter has come, what is given back needs no look at the queue.
+    fn is_owed(&self) -> bool
+        ensures none { result ≡ false → NobodyIsOwed C.ARE_MANY self.now.line }
+        ensures some { result ≡ true → NobodyIsOwed C.ARE_MANY self.now.line → ⊥ }
+    {
+        self.line.waiting() > 0 && (C::ARE_MANY || self.line.told() == 0)
+    }
 }
 
 impl<C: Counted> Kept for Competing<C> {
-    ghost rules = { rules_of C.fits C.taken C.CLOSES };
+    ghost rules = { rules_of C.fits C.taken C.CLOSES C.ARE_MANY };
 
     fn number(&self, number: u64) -> u64 {
         if is_closed_for::<C>(number) {
@@ -274,7 +289,7 @@ impl<C: Counted> Kept for Competing<C> {
             return false;
         }
         self.line.tell(free(number) as usize, sink);
-        self.line.waiting() > 0
+        self.is_owed()
     }
 
     fn swap_room(&mut self, room: &mut Room)

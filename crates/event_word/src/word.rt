@@ -46,7 +46,7 @@ pub const ONE: u64 = 4;
 /// The code while a thread has the state out.
 pub const OUT: u64 = 1;
 
-/// The code while the state is at home and there may be a waiter.
+/// The code while the state is at home, and a waiter may have to be notified of what is given back.
 pub const CROWDED: u64 = 2;
 
 /// The code while a thread has the state out and others may sleep until the state is back.
@@ -61,7 +61,7 @@ impl<S: Kept, V> Word<S, V> {
     /// Makes a lock with this number, this state and this value. Takes no memory.
     ///
     /// Requires that the number fits the rules of the lock and is less than 2^62 (because the code takes two bits of the word),
-    /// and that no thread waits in the state.
+    /// and that nobody in the state has to be notified.
     pub fn new(number: u64, state: S, value: V) -> Self
         requires number { (number < 2 ^ 62) × S.rules.fits number }
         requires state { S.rules.stands number state × S.rules.quiet state }

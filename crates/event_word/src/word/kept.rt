@@ -37,7 +37,8 @@ pub trait Kept: Sized {
         number
     }
 
-    /// Notifies waiters of what is free by this number, and returns whether there is a waiter still. The tasks go to `sink`.
+    /// Notifies waiters of what is free by this number, and returns whether a waiter has to be notified of what is given back
+    /// next. The tasks go to `sink`.
     fn settle<K: WakeSink<Task>>(&mut self, number: u64, sink: &mut K) -> bool
         requires { (number < 2 ^ 62) × rules.fits number × rules.promised number self.old
             × rules.tells number self.old }

@@ -215,8 +215,8 @@ impl<'a, S: Kept, V> Held<'a, S, V> {
             held.renumber(seen, aim * ONE + seen % 4);
             return Err(held);
         }
-        let waits = held.settle(number, aim, waking);
-        let code = if waits { CROWDED } else { 0 };
+        let is_owed = held.settle(number, aim, waking);
+        let code = if is_owed { CROWDED } else { 0 };
         let Held {
             word,
             claim,
@@ -288,7 +288,7 @@ impl<'a, S: Kept, V> Held<'a, S, V> {
     }
 
     // Notifies the waiters of what is free by the number that the word is to have; their tasks are woken later. The word may have
-    // a higher number, by which newcomers are shut out. Returns whether there is a waiter still.
+    // a higher number, by which newcomers are shut out. Returns whether a waiter has to be notified of what is given back next.
     fn settle(&mut self, number: u64, aim: u64, waking: &mut Wakes) -> bool
         requires number { (aim < 2 ^ 62) × S.rules.fits aim }
         requires promised { HasState (λ n q. (n ≡ number) × S.rules.promised aim q
@@ -303,8 +303,8 @@ impl<'a, S: Kept, V> Held<'a, S, V> {
         let state = self.claim.state_mut();
         state.swap_room(&mut waking.room);
         waking.refill();
-        let waits = state.settle(aim, waking);
+        let is_owed = state.settle(aim, waking);
         state.swap_room(&mut waking.room);
-        waits
+        is_owed
     }
 }
