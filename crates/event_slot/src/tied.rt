@@ -64,6 +64,14 @@ impl<'a, X: Ruled<S>, S, L: Ties> Tied<'a, X, S, L> {
         } = self;
         (Writing { slot, marker }, beside)
     }
+
+    /// Borrows what is beside the right to write.
+    #[inline(always)]
+    pub fn beside(&self) -> &L
+        ensures { result.now ≡ self.now.beside }
+    {
+        &self.beside
+    }
 }
 
 unsafe impl<X: Ruled<S> + Send + Sync, S: Send, L: Ties + Send> Send for Tied<'_, X, S, L> {}

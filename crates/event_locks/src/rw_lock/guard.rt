@@ -316,6 +316,11 @@ impl<'a, T, R: Wait + Clock> RwLockWriteGuard<'a, T, R> {
         }
     }
 
+    /// Returns the lock to which this guard belongs.
+    pub fn source(&self) -> &'a RwLock<T> {
+        self.tied.beside().lender.lock
+    }
+
     /// Makes a reader of this writer, with no other writer in between, and lets in all readers that wait.
     ///
     /// Where others wait the call may block until the queues, which another thread may be using, are put back.
