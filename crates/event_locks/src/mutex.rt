@@ -26,7 +26,8 @@ use std::time::Clock;
 
 /// A mutual-exclusion lock round a value: one thread or task at a time has the value, by a guard.
 ///
-/// A free mutex is taken by one atomic step, and given back by another where nobody waits. Threads and tasks wait in one queue.
+/// A free mutex is taken by one atomic step, and given back by another where no waiter has to be notified: one notified waiter is
+/// enough, since one at a time can have the value. Threads and tasks wait in one queue.
 /// They are notified in the order in which they joined it, and a notified waiter competes with newcomers: if the value is taken
 /// again, that waiter rejoins the queue at its end. A waiter that loses so twice *starves*: newcomers are shut out until that
 /// waiter has tried again, and then it finds the value.

@@ -1,12 +1,13 @@
 //! A lock on one word: what a semaphore, a mutex and a read-write lock are made of, proved between any two steps of any threads.
 //!
 //! [`Word`] keeps a *state*, the queues of the waiters, behind an atomic word. The word has a *number*, of what is free or of the
-//! threads that have the value, and a *code*, which says whether the state is there and whether there may be a waiter. One
-//! compare-exchange takes what is free, and one gives it back where no thread waits. Else a thread takes the state out, notifies,
-//! and puts the state back by a compare-exchange that fails where the word has changed: then the thread notifies again. A state
-//! that is out can't be dropped. The thread wakes the notified tasks once the state is back: a few from a list of its own, and
-//! where they are more, the next few once it has taken the state again. The tasks lie beside the state meanwhile, in room that
-//! the waiters have made. Word, state and value lie in place, in a [`Slot`](event_slot::Slot), so making a lock takes no memory.
+//! threads that have the value, and a *code*, which says whether the state is there and whether a waiter may have to be notified
+//! of what is given back. One compare-exchange takes what is free, and one gives it back where no waiter has to be notified. Else
+//! a thread takes the state out, notifies, and puts the state back by a compare-exchange that fails where the word has changed:
+//! then the thread notifies again. A state that is out can't be dropped. The thread wakes the notified tasks once the state is
+//! back: a few from a list of its own, and where they are more, the next few once it has taken the state again. The tasks lie
+//! beside the state meanwhile, in room that the waiters have made. Word, state and value lie in place, in a
+//! [`Slot`](event_slot::Slot), so making a lock takes no memory.
 //!
 //! A thread that finds the state out again and again sleeps, once it has marked the word. The thread that puts the state back
 //! wakes one that sleeps; the woken thread marks the word as it takes the state, since others may sleep still.

@@ -119,7 +119,7 @@ impl<K> OneValue<K> {
     /// Gives the right to the value of a mutex back, if no waiter is to be notified by that, and returns the share of the mutex. An
     /// error has the right, and the word as the call found it.
     ///
-    /// The call costs one compare-exchange where no thread waits.
+    /// The call costs one compare-exchange where no waiter has to be notified.
     #[inline(always)]
     pub fn go<L, V, R: Wait>(
         rt: &R,

@@ -179,8 +179,8 @@ impl<K, V> Word<Competing<OneValue<K>>, V> {
 
     /// Gives the right to the value back, and notifies the first waiter, if there is one.
     ///
-    /// The call costs one compare-exchange where no thread waits. The call does not wait for the state: a thread that has the
-    /// state out notifies.
+    /// The call costs one compare-exchange where no waiter has to be notified: where no thread waits, and while a waiter is
+    /// notified already. The call does not wait for the state: a thread that has the state out notifies.
     #[inline(always)]
     pub fn give_value<'a, R: Wait>(&'a self, rt: &R, lent: Lent<'a, Competing<OneValue<K>>, V>)
         requires { lent.name ≡ self.now.slot.name }
