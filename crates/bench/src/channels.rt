@@ -7,7 +7,8 @@ use futures::Future;
 use futures::executor::block_on;
 use futures::task::{Context, Poll};
 
-const MESSAGE: u64 = 7;
+/// Passes through every channel.
+pub const MESSAGE: u64 = 7;
 
 fn channel<R: Runtime>(
     rt: &R,

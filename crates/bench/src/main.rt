@@ -1,5 +1,6 @@
-//! Measures events with their listeners and the queue below them, locks, and channels. `make bench` runs it beside Rust
-//! crates; `docs/BENCHMARKS.md` has the tables, says what one operation of each workload is, and how they are measured.
+//! Measures events with their listeners and the queue below them, locks, and channels, also those of Rattle's own kit.
+//! `make bench` runs it beside Rust crates; `docs/BENCHMARKS.md` has the tables, says what one operation of each workload
+//! is, and how they are measured.
 //!
 //! - `bench WORKLOAD N [ROUNDS]` runs the workload with N listeners, or threads, for that many rounds, or for some
 //!   hundredths of a second, and prints how many operations that were and how long one took. Where threads share a mutex,
@@ -17,6 +18,9 @@
 //! `_recorded` over a recorded event, and with `_list` over a `List` alone. A listener of an event is polled by
 //! `poll_in`, one of a recorded event by `poll`, with a waker made for each.
 //!
+//! A workload whose name begins with `kit_` runs the loop of the workload that is named after `kit_` over the kit's own
+//! lock or channel: `Mutex`, `RwLock` and `Barrier` of `std::sync`, and `crossbeam_channel`.
+//!
 //! To count instructions, run a workload twice with different rounds under callgrind, and divide the difference:
 //!
 //!     valgrind --tool=callgrind --toggle-collect='bench::run::region*' out/bench churn 1000 1000
@@ -28,6 +32,7 @@
 mod acts;
 mod channels;
 mod fairness;
+mod kit;
 mod queues;
 mod request;
 mod run;

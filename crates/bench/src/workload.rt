@@ -1,6 +1,6 @@
 //! The workloads, by name.
 use crate::run::{Measured, Run, Runtime};
-use crate::{acts, channels, fairness, threads};
+use crate::{acts, channels, fairness, kit, threads};
 use anyhow::Result;
 
 /// All names.
@@ -10,13 +10,14 @@ pub const NAMES: &str = "listen_drop burst burst_listen burst_poll_pending burst
     listen_drop_recorded burst_recorded churn_recorded listen_drop_list burst_list churn_list \
     remove_fifo_list remove_middle_list base_waker ping_pong handover mutex_lock mutex_1k mutex_64k \
     mutex_arc mutex_try semaphore semaphore_3 read write read_arc write_arc barrier channel_1 channel_128 channel_unbounded \
-    channel_alone channel_tasks longest_wait smallest_share seldom";
+    channel_alone channel_tasks kit_mutex_lock kit_mutex_try kit_read kit_write kit_barrier kit_channel_1 \
+    kit_channel_128 kit_channel_unbounded kit_channel_alone longest_wait smallest_share seldom";
 
 /// How many rounds a run of a workload has that is asked for no number: as many as take some hundredths of a second. Where
-/// threads share a mutex, so many milliseconds.
+/// threads share a mutex, so many milliseconds. A workload of the kit has as many as ours.
 pub fn rounds_of(name: &str, n: usize) -> u64 {
     let n = n.max(1) as u64;
-    let rounds = match name {
+    let rounds = match name.strip_prefix("kit_").unwrap_or(name) {
         "longest_wait" | "smallest_share" => 2_000,
         "seldom" => 3_000,
         "ping_pong" | "handover" | "barrier" => 20_000,
@@ -67,6 +68,7 @@ fn run_timed<R: Runtime + Drop>(run: &mut Run<'_, R>) -> Result<()> {
         "channel_alone" => channels::pass_alone(run),
         "channel_tasks" => channels::pass_in_tasks(run),
         "notify_none" | "notify_told" | "is_notified" | "total_listeners" => acts::ask(run),
+        name if name.starts_with("kit_") => kit::measure(run),
         _ => acts::measure(run),
     }
 }
