@@ -11,8 +11,10 @@ mod first_wait;
 mod hands;
 mod jobs;
 mod limiter;
+mod office;
 mod pool;
 mod queue;
+mod readings;
 mod tasks;
 mod two_channels;
 
@@ -20,14 +22,18 @@ use awaits::{deposit, first_of, meet, read_after_write, take_two};
 use balance::{Balance, deposit_later, withdraw, withdraw_as_task, withdraw_within};
 use cache::{Squares, square};
 use cell::{make_name, port, set_port};
-use event_channel::unbounded;
+use event_channel::{bounded, unbounded};
 use event_locks::{Barrier, Mutex, OnceCell, RwLock, Semaphore};
 use first_wait::first_wait;
 use hands::send_then_receive;
 use jobs::square_each;
 use limiter::{Load, run_all};
+use office::Office;
 use pool::Pool;
 use queue::{close_gracefully, sum_of_squares};
+use readings::{
+    add_batches, drain, newest, next_as_task, next_within, report, report_as_task, report_if_open,
+};
 use std::alloc::AllocGlobal;
 use std::io::Print;
 use std::process::ExitCode;
@@ -195,6 +201,64 @@ where
     Ok(())
 }
 
+// An office that sells seats to a group, changes the price, and closes while a visitor waits for a seat.
+fn run_office<R>(rt: R) -> anyhow::Result<()>
+where
+    R: Threads + Wait + Clock + AllocGlobal + Print + Copy + Send + Sync + 'static,
+{
+    let alloc = rt.alloc();
+    let mut office = Office::new(alloc, 10, 5)?;
+    let is_put_in = office.put_in_change(100);
+    let sale = office.sell_later(rt, alloc, 4)?;
+    let paid = sale.map(|sale| sale.join(&rt));
+    let is_refused = office.sell_later(rt, alloc, 7)?.is_none();
+    print!(rt; "office: {is_put_in} {paid:?} {is_refused}")?;
+
+    office.set_price_later(rt, alloc, 6)?.join(&rt);
+    let price = office.price_now(&rt);
+    let (raised, left) = office.raise_price(&rt, alloc, 8)?;
+    print!(rt; "; {price:?} {raised} for each of {left}")?;
+
+    let off_sale = office.take_off_sale(usize::MAX);
+    let visitor = office.visit_later(rt, alloc)?;
+    let none_left = office.ask(&rt);
+    office.close(&rt);
+    let closed = office.ask(&rt);
+    let refused = visitor.join(&rt);
+    print!(rt; "; {off_sale} off sale, {none_left:?} {closed:?} {refused:?}")?;
+    println!(rt; "; {:?} at the end", office.end())?;
+    Ok(())
+}
+
+// Readings of which the oldest are lost, in batches, and readings one by one.
+fn run_readings<R>(rt: &R) -> anyhow::Result<()>
+where
+    R: Wait + Clock + Clone + RandomSource + AllocGlobal + Print,
+{
+    let alloc = rt.alloc();
+    let (sender, receiver) = bounded(rt, alloc, 6)?;
+    let lost = report(&sender, 10)?;
+    drop(sender);
+    let (batches, sum) = add_batches(rt, alloc, &receiver)?;
+    print!(rt; "readings: {lost} lost, {batches} batches of {sum}")?;
+
+    let (sender, mut receiver) = bounded(rt, alloc, 6)?;
+    report(&sender, 3)?;
+    print!(rt; "; {:?}", newest(&receiver))?;
+    report_as_task(rt, &sender, 4)?;
+    print!(rt; " {:?}", next_as_task(rt, &mut receiver)?)?;
+    let late = next_within(&receiver, Duration::from_millis(20))?;
+    let weak = sender.downgrade()?;
+    let is_open = report_if_open(&weak, 5)?;
+    drop(sender);
+    let is_still = report_if_open(&weak, 6)?;
+    println!(rt;
+        " {late:?}; {is_open} {is_still} {:?}",
+        drain(rt, &receiver)
+    )?;
+    Ok(())
+}
+
 fn run<R>(rt: R) -> anyhow::Result<()>
 where
     R: Threads + Wait + Clock + RandomSource + AllocGlobal + Print + Copy + Send + Sync + 'static,
@@ -209,6 +273,8 @@ where
     run_joins(rt)?;
     run_jobs(&rt)?;
     run_hands(&rt)?;
+    run_office(rt)?;
+    run_readings(&rt)?;
     println!(rt;
         "tasks: the balance is {}",
         deposit_all(&rt, rt.alloc(), 4)?
