@@ -65,6 +65,16 @@ pub struct SendError<T> {
 }
 
 /// Why [`try_recv`](crate::Receiver::try_recv) received no message.
+///
+/// Here a loop receives what there is, and the function returns once nothing was received:
+///
+/// ```rust
+/// match readings.try_recv() {
+///     Ok(reading) => sum = sum.saturating_add(reading),
+///     Err(TryRecvError::Empty) => return (sum, true),
+///     Err(TryRecvError::Closed) => return (sum, false),
+/// }
+/// ```
 #[derive(Clone, Copy, Debug, PartialEq, Eq, Error)]
 pub enum TryRecvError {
     /// No message waits, or each message that waits is due to a notified receive while a receive [starves](crate::PATIENCE).
@@ -95,6 +105,16 @@ pub enum RecvError {
 }
 
 /// Why no message was received in time.
+///
+/// Here a limit that has passed is no error for the caller:
+///
+/// ```rust
+/// match readings.recv_timeout(limit) {
+///     Ok(reading) => Ok(Some(reading)),
+///     Err(RecvTimeoutError::TimedOut) => Ok(None),
+///     Err(error) => Err(error),
+/// }
+/// ```
 #[derive(Clone, Copy, Debug, PartialEq, Eq, Error)]
 pub enum RecvTimeoutError {
     /// There was no message before the time passed.

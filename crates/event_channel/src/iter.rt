@@ -25,6 +25,14 @@ pub struct Iter<'a, T: Drop, R: Wait + Clock + Clone> {
 }
 
 /// The messages that are in a channel. [`try_iter`](Receiver::try_iter) makes this.
+///
+/// The loop ends once no message is there:
+///
+/// ```rust
+/// for reading in readings.try_iter() {
+///     newest = Some(reading);
+/// }
+/// ```
 #[derive(Drop)]
 pub struct TryIter<'a, T: Drop, R: Wait + Clock + Clone> {
     receiver: &'a Receiver<T, R>,
@@ -59,6 +67,16 @@ impl<T: Drop, R: Wait + Clock + Clone> Receiver<T, R> {
     /// since.
     ///
     /// It does not wait for messages, and takes no memory.
+    ///
+    /// The function keeps the newest message that is there, and drops the older ones:
+    ///
+    /// ```rust
+    /// let mut newest = None;
+    /// for reading in readings.try_iter() {
+    ///     newest = Some(reading);
+    /// }
+    /// newest
+    /// ```
     pub fn try_iter(&self) -> TryIter<'_, T, R> {
         TryIter {
             receiver: self,

@@ -124,6 +124,17 @@ impl<T: Drop, R: Wait + Clock + Clone> Receiver<T, R> {
     ///
     /// While a receive [starves](crate::PATIENCE), a message that is due to a notified receive is not there for this call: it
     /// answers `Empty` then although messages wait, at most [so often](crate::FORBEARANCE) for the sake of each such receive.
+    ///
+    /// Each round of a loop receives a message, and the function returns once there is none, with the sum, and with whether
+    /// more may come:
+    ///
+    /// ```rust
+    /// match readings.try_recv() {
+    ///     Ok(reading) => sum = sum.saturating_add(reading),
+    ///     Err(TryRecvError::Empty) => return (sum, true),
+    ///     Err(TryRecvError::Closed) => return (sum, false),
+    /// }
+    /// ```
     #[inline(always)]
     pub fn try_recv(&self) -> Result<T, TryRecvError> {
         let mut hand = self.hand();
@@ -212,6 +223,16 @@ impl<T: Drop, R: Wait + Clock + Clone> Receiver<T, R> {
     /// the call still attempts to receive.
     ///
     /// Where it has to wait it takes memory, for a place in the queue and for what the thread parks on.
+    ///
+    /// Here a limit that has passed is no error for the caller, but a closed channel is:
+    ///
+    /// ```rust
+    /// match readings.recv_timeout(limit) {
+    ///     Ok(reading) => Ok(Some(reading)),
+    ///     Err(RecvTimeoutError::TimedOut) => Ok(None),
+    ///     Err(error) => Err(error),
+    /// }
+    /// ```
     pub fn recv_timeout(&self, timeout: Duration) -> Result<T, RecvTimeoutError> {
         let mut hand = self.hand();
         let waited = self.wait(&mut hand, Limit::after(&self.link.rt, timeout));
@@ -239,6 +260,21 @@ impl<T: Drop, R: Wait + Clock + Clone> Receiver<T, R> {
     /// takes room in `into`: for one message, where a refusal is an error, and for as many as are in the channel at the moment,
     /// where a refusal is no error. It takes no more messages than `into` has room for, so reserve room for `limit` messages to
     /// have as many as there are.
+    ///
+    /// Each round of a loop receives one batch, and ends the loop once the channel is closed and empty. The vector is used
+    /// again for the next batch:
+    ///
+    /// ```rust
+    /// match readings.recv_many(&mut batch, BATCH) {
+    ///     Ok(_) => batches = batches.saturating_add(1),
+    ///     Err(RecvError::Closed) => return Ok((batches, sum)),
+    ///     Err(error) => return Err(error),
+    /// }
+    /// for reading in &batch {
+    ///     sum = sum.saturating_add(*reading);
+    /// }
+    /// batch.clear();
+    /// ```
     pub fn recv_many(&self, into: &mut Vec<T>, limit: usize) -> Result<usize, RecvError>
         ensures most { IfOk result (λ count. count ≤ limit) }
         ensures one { IfOk result (λ count. 0 < limit → 0 < count) }
@@ -405,6 +441,13 @@ impl<T: Drop, R: Wait + Clock + Clone> Drop for Receiver<T, R> {
 ///
 /// Each message wakes every stream that waits, beside one receive, so a stream that is polled once and left alone keeps no
 /// message from others.
+///
+/// A task awaits the next message. The first `?` propagates an error of the executor, and the second a `WaitError`:
+///
+/// ```rust
+/// let reading = block_on(rt, readings.next())?;
+/// Ok(reading.transpose()?)
+/// ```
 impl<T: Drop, R: Wait + Clock + Clone> Stream for Receiver<T, R> {
     type Item = Result<T, WaitError>;
 

@@ -23,6 +23,13 @@ use std::time::{Clock, Duration, Instant};
 ///
 /// Poll it or drop it once its task is woken. Left alone it stops nobody for good: if it [starves](crate::PATIENCE), others are
 /// refused what is due to it [so often](crate::FORBEARANCE), and then it waits anew when it is polled.
+///
+/// A task awaits the send:
+///
+/// ```rust
+/// block_on(rt, readings.send(reading))??;
+/// Ok(())
+/// ```
 #[must_use = "nothing is sent before it is polled"]
 pub struct Send<'a, T: Drop, R: Wait + Clock + Clone> {
     channel: &'a Channel<T>,

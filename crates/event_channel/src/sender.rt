@@ -250,6 +250,17 @@ impl<T: Drop, R: Wait + Clock + Clone> Sender<T, R> {
     /// message is taken out and returned.
     ///
     /// An error has the message again. The call takes memory only where the channel has no limit and no room left.
+    ///
+    /// The loop counts the messages that went out for new ones:
+    ///
+    /// ```rust
+    /// for reading in 1..=last {
+    ///     if readings.force_send(reading)?.is_some() {
+    ///         lost = lost.saturating_add(1);
+    ///     }
+    /// }
+    /// Ok(lost)
+    /// ```
     pub fn force_send(&self, message: T) -> Result<Option<T>, SendError<T>>
         ensures returned { IfErr result (λ error. error.message ≡ message) }
         ensures reason { IfErr result (λ error. IsUnsent error.reason) }
@@ -281,6 +292,13 @@ impl<T: Drop, R: Wait + Clock + Clone> Sender<T, R> {
     /// sent before it is polled.
     ///
     /// An error has the message again. If the future is dropped before it is ready, the message is dropped and not sent.
+    ///
+    /// A task sends. The first `?` propagates an error of the executor, and the second a `SendError`, which has the message:
+    ///
+    /// ```rust
+    /// block_on(rt, readings.send(reading))??;
+    /// Ok(())
+    /// ```
     pub fn send(&self, message: T) -> Send<'_, T, R>
         ensures carries { Carries message result }
         ensures channel { result.channel ≡ self.now.channel }
@@ -460,6 +478,16 @@ impl<T: Drop, R: Wait + Clock + Clone> Sender<T, R> {
 
     /// Makes a handle that does not keep the channel open, of which [`upgrade`](WeakSender::upgrade) makes a sender again.
     /// Fails if the runtime value can't be cloned.
+    ///
+    /// While there is a sender, `report_if_open` sends by the weak handle and returns `true`. Once the last sender is dropped,
+    /// `report_if_open` sends nothing and returns `false`:
+    ///
+    /// ```rust
+    /// let weak = sender.downgrade()?;
+    /// let is_open = report_if_open(&weak, 5)?;
+    /// drop(sender);
+    /// let is_still = report_if_open(&weak, 6)?;
+    /// ```
     pub fn downgrade(&self) -> Result<WeakSender<T, R>, AllocError>
         ensures { IfOk result (λ weak. weak ≡ self.now) }
     {
@@ -499,6 +527,16 @@ impl<T: Drop, R: Wait + Clock + Clone> Debug for Sender<T, R> {
 
 /// A handle of a channel that does not keep the channel open for senders. [`upgrade`](WeakSender::upgrade) makes a sender of
 /// it, while there is another sender.
+///
+/// The function sends only while somebody else has a sender:
+///
+/// ```rust
+/// let Some(sender) = readings.upgrade()? else {
+///     return Ok(false);
+/// };
+/// sender.force_send(reading)?;
+/// Ok(true)
+/// ```
 #[derive(Drop)]
 pub struct WeakSender<T: Drop, R: Wait + Clock + Clone> {
     link: Link<T, R>,
@@ -517,6 +555,16 @@ impl<T: Drop, R: Wait + Clock + Clone> WeakSender<T, R> {
     /// can't be cloned.
     ///
     /// The call may block for the lock of the channel.
+    ///
+    /// Here the sender that was made is dropped where the function returns:
+    ///
+    /// ```rust
+    /// let Some(sender) = readings.upgrade()? else {
+    ///     return Ok(false);
+    /// };
+    /// sender.force_send(reading)?;
+    /// Ok(true)
+    /// ```
     pub fn upgrade(&self) -> Result<Option<Sender<T, R>>, AllocError>
         ensures { IfOk result (λ sender. IfSome sender (λ sender. sender ≡ self.now)) }
     {

@@ -184,6 +184,16 @@ impl<T> Mutex<T> {
     ///
     /// The wait and the guard keep the mutex by a share of its `Arc`. An error says that no further share could be counted:
     /// then nothing is asked for.
+    ///
+    /// A sale takes all its guards before its thread starts, and the thread owns them. The first `?` of a line propagates an
+    /// `AllocError`, if no further share could be counted, and the second an error of the wait:
+    ///
+    /// ```rust
+    /// let price = RwLock::read_arc(&self.price, rt, alloc)?.wait()?;
+    /// let takings = Mutex::lock_arc(&self.takings, rt, alloc)?.wait()?;
+    /// let sale = thread::spawn(&rt, move || sell(seats, price, takings))?;
+    /// Ok(Some(sale))
+    /// ```
     pub fn lock_arc<R: Wait + Clock + Drop>(
         this: &Arc<Self, Global>,
         rt: R,
@@ -197,11 +207,29 @@ impl<T> Mutex<T> {
     }
 
     /// Returns a reference to the value without locking, since `&mut self` says that nobody else uses the mutex.
+    ///
+    /// While no other owner has a share of the mutex, the value is changed without a lock:
+    ///
+    /// ```rust
+    /// let Some(takings) = Arc::get_mut(&mut self.takings) else {
+    ///     return false;
+    /// };
+    /// let takings = takings.get_mut();
+    /// *takings = takings.saturating_add(amount);
+    /// true
+    /// ```
     pub fn get_mut(&mut self) -> &mut T {
         self.word.value_mut().get_mut()
     }
 
     /// Ends the mutex and returns its value.
+    ///
+    /// Where no other owner has a share of the mutex any more, the value is taken out without a lock:
+    ///
+    /// ```rust
+    /// let takings = Arc::into_inner(takings)?;
+    /// Some(takings.into_inner())
+    /// ```
     pub fn into_inner(self) -> T {
         let Mutex { word, source: _ } = self;
         word.into_inner().into_inner()

@@ -72,6 +72,13 @@ impl<T> RwLock<T> {
     ///
     /// The call takes no memory and does not wait for the value. Where others wait it may block until the queues, which another
     /// thread may be using, are put back.
+    ///
+    /// The function returns the price, or `None` where it would have to wait for the right to read:
+    ///
+    /// ```rust
+    /// let price = self.price.try_read(rt)?;
+    /// Some(*price)
+    /// ```
     #[must_use = "a guard that is dropped at once gives back what it holds"]
     #[inline(always)]
     pub fn try_read<'a, R: Wait + Clock>(&'a self, rt: &'a R) -> Option<RwLockReadGuard<'a, T, R>> {
@@ -180,6 +187,16 @@ impl<T> RwLock<T> {
     ///
     /// The wait and the guard keep the lock by a share of its `Arc`. An error says that no further share could be counted: then
     /// nothing is asked for.
+    ///
+    /// A sale keeps the right to read the price until the sale is done. The first `?` of a line propagates an `AllocError`, if
+    /// no further share could be counted, and the second an error of the wait:
+    ///
+    /// ```rust
+    /// let price = RwLock::read_arc(&self.price, rt, alloc)?.wait()?;
+    /// let takings = Mutex::lock_arc(&self.takings, rt, alloc)?.wait()?;
+    /// let sale = thread::spawn(&rt, move || sell(seats, price, takings))?;
+    /// Ok(Some(sale))
+    /// ```
     pub fn read_arc<R: Wait + Clock + Drop>(
         this: &Arc<Self, Global>,
         rt: R,
@@ -197,6 +214,14 @@ impl<T> RwLock<T> {
     ///
     /// The wait and the guard keep the lock by a share of its `Arc`. An error says that no further share could be counted: then
     /// nothing is asked for.
+    ///
+    /// The right to write goes to a thread, so nobody finds the old price once that thread was started:
+    ///
+    /// ```rust
+    /// let price = RwLock::write_arc(&self.price, rt, alloc)?.wait()?;
+    /// let setter = thread::spawn(&rt, move || set(price, amount))?;
+    /// Ok(setter)
+    /// ```
     pub fn write_arc<R: Wait + Clock + Drop>(
         this: &Arc<Self, Global>,
         rt: R,

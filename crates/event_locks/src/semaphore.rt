@@ -101,6 +101,17 @@ impl Semaphore {
     /// Every waiter is woken, and its wait ends with [`AcquireError::Closed`], as each new one does. Permits that are out may
     /// still be given back, and are counted as free. A semaphore that is closed already stays as it is. The call may block
     /// until the queue, which another thread may be using, is put back.
+    ///
+    /// Here `office.close` closes the semaphore. Before that `ask` finds no free permit, and after that `ask` finds the
+    /// semaphore closed. The wait of the thread `visitor` ends by the close, with an error:
+    ///
+    /// ```rust
+    /// let visitor = office.visit_later(rt, alloc)?;
+    /// let none_left = office.ask(&rt);
+    /// office.close(&rt);
+    /// let closed = office.ask(&rt);
+    /// let refused = visitor.join(&rt);
+    /// ```
     pub fn close<R: Wait>(&self, rt: &R) {
         self.word.close(rt);
     }
@@ -130,6 +141,13 @@ impl Semaphore {
     /// Newcomers are shut out while a waiter starves, and while a thread that tried sixteen times in vain puts the queue back. The
     /// call takes no memory. It blocks only where newcomers are shut out for a waiter that starves, to wake more than eight
     /// waiters.
+    ///
+    /// A permit that is taken here is given back where the function returns:
+    ///
+    /// ```rust
+    /// let _seat = self.seats.try_acquire(rt)?;
+    /// Ok(())
+    /// ```
     #[must_use = "a guard that is dropped at once gives back what it holds"]
     #[inline(always)]
     pub fn try_acquire<'a, R: Wait + Clock>(
@@ -196,6 +214,15 @@ impl Semaphore {
     ///
     /// The guard keeps the semaphore by a share of its `Arc`. The outer error says that no further share could be counted: then
     /// nothing was taken.
+    ///
+    /// A group gets all its seats or none. The `?` propagates an `AllocError`; the `else` is taken where too few permits are
+    /// free, or the semaphore is closed:
+    ///
+    /// ```rust
+    /// let Ok(seats) = Semaphore::try_acquire_many_arc(&self.seats, rt, group)? else {
+    ///     return Ok(None);
+    /// };
+    /// ```
     #[must_use = "a guard that is dropped at once gives back what it holds"]
     pub fn try_acquire_many_arc<R: Wait + Clock + Drop>(
         this: &Arc<Self, Global>,
@@ -278,6 +305,16 @@ impl Semaphore {
     ///
     /// While a waiter starves the call takes none, because what is free then is for the waiters; nor does it at a closed
     /// semaphore. It takes no memory and never blocks.
+    ///
+    /// The clause of a caller may say how many are taken at most:
+    ///
+    /// ```rust
+    /// pub fn take_off_sale(&self, seats: usize) -> usize
+    ///     ensures { result ≤ seats }
+    /// {
+    ///     self.seats.forget_permits(seats)
+    /// }
+    /// ```
     pub fn forget_permits(&self, n: usize) -> usize
         ensures at_most { result ≤ n }
     {

@@ -41,6 +41,17 @@ pub struct MutexGuard<'a, T, R: Wait + Clock> {
 /// The value of a mutex, by a guard that keeps the mutex by a share of its `Arc` and so may go to another thread.
 ///
 /// Dropping the guard gives the value back, and notifies the next waiter. A contract sees the guard as the value.
+///
+/// Here the guard `takings` is an argument of the function that a thread runs. The value is given back where the function
+/// returns:
+///
+/// ```rust
+/// let mut takings = takings;
+/// let paid = price.saturating_mul(seats.num_permits() as u64);
+/// *takings = takings.saturating_add(paid);
+/// seats.forget();
+/// paid
+/// ```
 #[must_use = "a guard that is dropped at once gives back what it holds"]
 pub struct MutexGuardArc<T: Drop, R: Wait + Clock + Drop> {
     writer: WriterArc<Mutex<T>, T, Line>,

@@ -38,6 +38,12 @@ pub struct Lock<'a, T, R: Wait + Clock> {
 /// another thread.
 ///
 /// A `LockArc` is waited on, awaited and dropped like a [`Lock`].
+///
+/// [`Mutex::lock_arc`](crate::Mutex::lock_arc) makes this, and a thread waits on it:
+///
+/// ```rust
+/// let takings = Mutex::lock_arc(&self.takings, rt, alloc)?.wait()?;
+/// ```
 #[must_use = "nothing is asked for until it is waited on or polled"]
 #[derive(Drop)]
 pub struct LockArc<T: Drop, R: Wait + Clock + Drop> {
@@ -113,6 +119,13 @@ impl<T: Drop, R: Wait + Clock + Drop> LockArc<T, R> {
     }
 
     /// Blocks the thread until it has the value, like [`Lock::wait`]. Returns a guard that may go to another thread.
+    ///
+    /// The guard goes to the thread that makes a sale:
+    ///
+    /// ```rust
+    /// let takings = Mutex::lock_arc(&self.takings, rt, alloc)?.wait()?;
+    /// let sale = thread::spawn(&rt, move || sell(seats, price, takings))?;
+    /// ```
     pub fn wait(self) -> Result<MutexGuardArc<T, R>, LockError> {
         match come_first(self.obtaining) {
             Ok(guard) => Ok(guard),

@@ -242,6 +242,17 @@ pub struct RwLockWriteGuard<'a, T, R: Wait + Clock> {
 /// another thread.
 ///
 /// Dropping the guard ends the reading. A contract sees the guard as the value.
+///
+/// Here the guard `price` is an argument of the function that a thread runs, and nobody changes the price before the function
+/// returns:
+///
+/// ```rust
+/// let mut takings = takings;
+/// let paid = price.saturating_mul(seats.num_permits() as u64);
+/// *takings = takings.saturating_add(paid);
+/// seats.forget();
+/// paid
+/// ```
 #[must_use = "a guard that is dropped at once ends the reading"]
 pub struct RwLockReadGuardArc<T: Drop, R: Wait + Clock + Drop> {
     held: HeldArc<T, R, Reading>,
@@ -251,6 +262,13 @@ pub struct RwLockReadGuardArc<T: Drop, R: Wait + Clock + Drop> {
 /// another thread.
 ///
 /// Dropping the guard ends the writing. A contract sees the guard as the value.
+///
+/// Here the guard is an argument of the function that a thread runs, and the writing ends where the function returns:
+///
+/// ```rust
+/// let mut price = price;
+/// *price = amount;
+/// ```
 #[must_use = "a guard that is dropped at once ends the writing"]
 pub struct RwLockWriteGuardArc<T: Drop, R: Wait + Clock + Drop> {
     held: HeldArc<T, R, Writing>,
@@ -297,6 +315,21 @@ impl<'a, T, R: Wait + Clock> RwLockReadGuard<'a, T, R> {
     ///
     /// The value is not given back in between. The call takes no memory. Where others wait it may block until the queues, which
     /// another thread may be using, are put back.
+    ///
+    /// A reader that may not become a writer at once leaves, and asks to write. Then another writer may have had the value in
+    /// between, so what was read before may hold no more:
+    ///
+    /// ```rust
+    /// let mut price = match price.try_upgrade() {
+    ///     Ok(price) => price,
+    ///     Err(price) => {
+    ///         // Others read, or a writer waits. Another writer may come first.
+    ///         drop(price);
+    ///         self.price.write(rt, alloc).wait()?
+    ///     }
+    /// };
+    /// *price = (*price).max(least);
+    /// ```
     pub fn try_upgrade(self) -> Result<RwLockWriteGuard<'a, T, R>, RwLockReadGuard<'a, T, R>> {
         let RwLockReadGuard { grant, hold } = self;
         match hold.lender.lock.word.try_upgrade(hold.rt, grant) {
@@ -324,6 +357,14 @@ impl<'a, T, R: Wait + Clock> RwLockWriteGuard<'a, T, R> {
     /// Makes a reader of this writer, with no other writer in between, and lets in all readers that wait.
     ///
     /// Where others wait the call may block until the queues, which another thread may be using, are put back.
+    ///
+    /// The seats are counted while the price is the one that this caller left:
+    ///
+    /// ```rust
+    /// *price = (*price).max(least);
+    /// let price = price.downgrade();
+    /// Ok((*price, self.seats.available()))
+    /// ```
     pub fn downgrade(self) -> RwLockReadGuard<'a, T, R> {
         let RwLockWriteGuard { tied } = self;
         let (writing, hold) = tied.untie();

@@ -41,6 +41,12 @@ pub struct Read<'a, T, R: Wait + Clock> {
 /// and its guard may go to another thread.
 ///
 /// A `ReadArc` is waited on, awaited and dropped like a [`Read`].
+///
+/// [`RwLock::read_arc`](crate::RwLock::read_arc) makes this, and a thread waits on it:
+///
+/// ```rust
+/// let price = RwLock::read_arc(&self.price, rt, alloc)?.wait()?;
+/// ```
 #[must_use = "nothing is asked for until it is waited on or polled"]
 #[derive(Drop)]
 pub struct ReadArc<T: Drop, R: Wait + Clock + Drop> {
@@ -110,6 +116,14 @@ impl<T: Drop, R: Wait + Clock + Drop> ReadArc<T, R> {
     }
 
     /// Blocks the thread until it may read, like [`Read::wait`]. Returns a guard that may go to another thread.
+    ///
+    /// The guard goes to the thread that makes a sale:
+    ///
+    /// ```rust
+    /// let price = RwLock::read_arc(&self.price, rt, alloc)?.wait()?;
+    ///
+    /// let sale = thread::spawn(&rt, move || sell(seats, price, takings))?;
+    /// ```
     pub fn wait(self) -> Result<RwLockReadGuardArc<T, R>, LockError> {
         match come_first(self.obtaining) {
             Ok(held) => Ok(RwLockReadGuardArc::of(held)),
@@ -200,6 +214,12 @@ pub struct Write<'a, T, R: Wait + Clock> {
 /// and its guard may go to another thread.
 ///
 /// A `WriteArc` is waited on, awaited and dropped like a [`Write`].
+///
+/// [`RwLock::write_arc`](crate::RwLock::write_arc) makes this, and a thread waits on it:
+///
+/// ```rust
+/// let price = RwLock::write_arc(&self.price, rt, alloc)?.wait()?;
+/// ```
 #[must_use = "nothing is asked for until it is waited on or polled"]
 #[derive(Drop)]
 pub struct WriteArc<T: Drop, R: Wait + Clock + Drop> {
@@ -268,6 +288,13 @@ impl<T: Drop, R: Wait + Clock + Drop> WriteArc<T, R> {
     }
 
     /// Blocks the thread until it may write, like [`Write::wait`]. Returns a guard that may go to another thread.
+    ///
+    /// The guard goes to the thread that sets the price:
+    ///
+    /// ```rust
+    /// let price = RwLock::write_arc(&self.price, rt, alloc)?.wait()?;
+    /// let setter = thread::spawn(&rt, move || set(price, amount))?;
+    /// ```
     pub fn wait(self) -> Result<RwLockWriteGuardArc<T, R>, LockError> {
         match come_first(self.obtaining) {
             Ok(held) => Ok(RwLockWriteGuardArc::of(held)),

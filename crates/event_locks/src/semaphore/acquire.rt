@@ -120,6 +120,14 @@ impl<R: Wait + Clock + Drop> AcquireArc<R> {
     }
 
     /// Blocks the thread until it has a permit, like [`Acquire::wait`]. Returns a guard that may go to another thread.
+    ///
+    /// Here `wait` went to a thread before it was waited on. The `?` propagates an error, which is `Closed` once the semaphore
+    /// is closed:
+    ///
+    /// ```rust
+    /// let _seat = wait.wait()?;
+    /// Ok(())
+    /// ```
     pub fn wait(self) -> Result<SemaphoreGuardArc<R>, AcquireError>
         ensures one { IfOk result (λ guard. guard ≡ 1) }
     {

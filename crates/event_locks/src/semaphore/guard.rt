@@ -104,6 +104,12 @@ impl<R: Wait + Clock + Drop> SemaphoreGuardArc<R> {
     }
 
     /// Returns how many permits this guard has: one, or as many as were taken at once.
+    ///
+    /// The buyer pays for as many seats as the guard has permits:
+    ///
+    /// ```rust
+    /// let paid = price.saturating_mul(seats.num_permits() as u64);
+    /// ```
     pub fn num_permits(&self) -> usize
         ensures { result ≡ self.now }
     {
@@ -116,6 +122,13 @@ impl<R: Wait + Clock + Drop> SemaphoreGuardArc<R> {
     }
 
     /// Ends the guard without giving its permits back: the semaphore has so many permits less from here on.
+    ///
+    /// A seat that was sold is not given back:
+    ///
+    /// ```rust
+    /// *takings = takings.saturating_add(paid);
+    /// seats.forget();
+    /// ```
     pub fn forget(self) {
         let SemaphoreGuardArc { hold: _, permit } = self;
         permit.forget();
