@@ -238,7 +238,7 @@ impl<T> Mutex<T> {
 
 // The steps of guards that share the mutex.
 impl<T> Mutex<T> {
-    // Gives a parked right back, and notifies the next waiter.
+    // Gives a parked right back, and notifies the first waiter, unless one is notified already.
     fn give_parked<R: Wait>(&self, rt: &R, parked: Parked)
         requires { parked ≡ self.now.word.slot.name }
     {

@@ -216,7 +216,7 @@ impl Semaphore {
     /// nothing was taken.
     ///
     /// A group gets all its seats or none. The `?` propagates an `AllocError`; the `else` is taken where too few permits are
-    /// free, or the semaphore is closed:
+    /// free for newcomers, or the semaphore is closed:
     ///
     /// ```rust
     /// let Ok(seats) = Semaphore::try_acquire_many_arc(&self.seats, rt, group)? else {

@@ -67,9 +67,9 @@ impl Office {
         true
     }
 
-    /// Takes seats for a group, all or none, and starts a thread that sells them. Returns `None` if too few seats are left, or
-    /// if the office is closed. The thread has all guards from its start, so whoever asks for the takings later waits for this
-    /// sale.
+    /// Takes seats for a group, all or none, and starts a thread that sells them. Returns `None` if too few seats are left for
+    /// newcomers, or if the office is closed. The thread has all guards from its start, so whoever locks the takings later, as
+    /// the next sale does, waits for this sale.
     pub fn sell_later<R>(
         &self,
         rt: R,

@@ -20,8 +20,8 @@ impl<T, R> Ties for Lending<'_, Mutex<T>, R> {
     ghost ties = { λ hold name. hold.lender.lock.now.word.slot.name ≡ name };
 }
 
-/// The value of a mutex, as long as its owner keeps this guard. Dropping the guard gives the value back, and notifies the next
-/// waiter.
+/// The value of a mutex, as long as its owner keeps this guard. Dropping the guard gives the value back, and notifies the first
+/// waiter, unless one is notified already.
 ///
 /// The guard dereferences to the value. A contract sees the guard as the value.
 ///
@@ -40,7 +40,8 @@ pub struct MutexGuard<'a, T, R: Wait + Clock> {
 
 /// The value of a mutex, by a guard that keeps the mutex by a share of its `Arc` and so may go to another thread.
 ///
-/// Dropping the guard gives the value back, and notifies the next waiter. A contract sees the guard as the value.
+/// Dropping the guard gives the value back, and notifies the first waiter, unless one is notified already. A contract sees the
+/// guard as the value.
 ///
 /// Here the guard `takings` is an argument of the function that a thread runs. The value is given back where the function
 /// returns:

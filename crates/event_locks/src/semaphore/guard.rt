@@ -12,8 +12,8 @@ use std::marker::Model;
 use std::sync::{Arc, Wait};
 use std::time::Clock;
 
-/// One permit of a semaphore, or as many as were taken at once. Dropping the guard gives them back, and notifies as many
-/// waiters.
+/// One permit of a semaphore, or as many as were taken at once. Dropping the guard gives them back, and notifies the first
+/// waiters until as many are notified as permits are free.
 ///
 /// A contract sees the guard as the number of its permits.
 ///
@@ -34,8 +34,8 @@ pub struct SemaphoreGuard<'a, R: Wait + Clock> {
 /// One permit of a semaphore, or as many as were taken at once, by a guard that keeps the semaphore by a share of its `Arc` and
 /// so may go to another thread.
 ///
-/// Dropping the guard gives the permits back, and notifies as many waiters. A contract sees the guard as the number of its
-/// permits.
+/// Dropping the guard gives the permits back, and notifies the first waiters until as many are notified as permits are free. A
+/// contract sees the guard as the number of its permits.
 ///
 /// Here the guard `permit` is part of the closure that a thread runs. The thread gives the permit back after its job:
 ///
