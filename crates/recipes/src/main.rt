@@ -8,6 +8,7 @@ mod balance;
 mod cache;
 mod cell;
 mod first_wait;
+mod gate;
 mod hands;
 mod jobs;
 mod limiter;
@@ -25,6 +26,7 @@ use cell::{make_name, port, set_port};
 use event_channel::{bounded, unbounded};
 use event_locks::{Barrier, Mutex, OnceCell, RwLock, Semaphore};
 use first_wait::first_wait;
+use gate::{go_in, go_in_within, go_out, new_gate};
 use hands::send_then_receive;
 use jobs::square_each;
 use limiter::{Load, run_all};
@@ -133,6 +135,24 @@ where
     let other = deposit_later(rt, &balance, 10)?;
     let left = withdraw_as_task(&rt, alloc, &balance, 8)?.left;
     println!(rt; "; {left} of {}", other.join(&rt))?;
+    Ok(())
+}
+
+// A gate for two. A second thread goes in, so both places are taken.
+fn run_gate<R>(rt: R) -> anyhow::Result<()>
+where
+    R: Threads + Wait + Clock + AllocGlobal + Print + Copy + Send + Sync + 'static,
+{
+    let alloc = rt.alloc();
+    let gate = Arc::new(alloc, new_gate::<2>(alloc))?;
+    let other = Arc::try_clone(&gate)?;
+    let visitor = thread::spawn(&rt, move || go_in(&rt, alloc, &other))?;
+    let first = go_in(&rt, alloc, &gate)?;
+    let second = visitor.join(&rt)?;
+    let third = go_in_within(&rt, alloc, &gate, Duration::from_millis(20))?;
+    go_out(&rt, &gate);
+    let again = go_in(&rt, alloc, &gate)?;
+    println!(rt; "gate: {} {third:?}; {again}", first.max(second))?;
     Ok(())
 }
 
@@ -269,6 +289,7 @@ where
     run_cell(&rt)?;
     run_cache(&rt)?;
     run_balance(rt)?;
+    run_gate(rt)?;
     run_selects(&rt)?;
     run_joins(rt)?;
     run_jobs(&rt)?;
